@@ -136,7 +136,7 @@ uint32_t lgp_run_script_in(struct lgp_memory memory,
 /* Opens a session. The memory is given up for good whatever the status is, even with LGP_IS_OPEN.
  * LGP_WELL; LGP_NO_MEMORY if no session could be opened; LGP_IS_OPEN if nothing has changed.
  *
- * The region itself uses 4,096 of these bytes, and an open session some 600 kilobytes. No block that was
+ * The region itself uses 4,096 of these bytes, and an open session about 600 kilobytes. No block that was
  * returned is lost: it serves a later request of its size, so lines that leave nothing behind do not need
  * more and more memory. What a session keeps does: the transcript, the steps to go back, a source and the
  * words that a program reads. The line `new` makes a new laboratory before it gives up the old one: after

@@ -10,9 +10,9 @@ function isAnswered(name, does, words) {
     const [word] = words.filter((it) => it !== "--stdio");
     if (word === undefined) return false;
     if (["--version", "-V"].includes(word)) process.stdout.write(`${name} ${VERSION}\n`);
-    else if (["--help", "-h"].includes(word)) process.stdout.write(`${name} ${does}\n\n  --stdio          the same as without words: messages come and go by standard input and output\n  -h, --help       this help\n  -V, --version    the version\n`);
+    else if (["--help", "-h"].includes(word)) process.stdout.write(`${name} ${does}\n\n  --stdio          the default: messages on standard input and output\n  -h, --help       this help\n  -V, --version    the version\n`);
     else {
-        process.stderr.write(`${name}: ${word} is no word of this program; --help lists them\n`);
+        process.stderr.write(`${name}: ${word} is not an option of this program; --help lists them\n`);
         process.exitCode = 64;
     }
     return true;

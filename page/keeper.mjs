@@ -3,6 +3,9 @@
 /** How long after a change it is written at most. */
 const KEPT_AFTER = 400;
 
+/** How many sources of a task are kept that were there before it was begun anew. */
+const BEFORE = 10;
+
 /** How many works are kept, with the one at hand. */
 export const WORKS = 10;
 
@@ -145,21 +148,35 @@ export class Sources {
 
     /** The source that a task had before it was begun anew, or null. */
     before(name) {
-        return this.#keeper.of(`before/${name}`);
+        return this.#allBefore(name).at(-1) ?? null;
+    }
+
+    /** The sources that a task had whenever it was begun anew, the newest last. Once a single one was kept, as a text. */
+    #allBefore(name) {
+        return [this.#keeper.of(`before/${name}`) ?? []].flat();
+    }
+
+    #keepBefore(name, sources) {
+        this.#keeper.keep(`before/${name}`, sources.length === 0 ? null : sources.slice(-BEFORE));
+    }
+
+    /** The source of a task as one that can be taken back; none where nothing was written. */
+    #written(name) {
+        return [this.of(name) ?? ""].filter((source) => source.trim() !== "");
     }
 
     /** Begins a task anew: what was written can be taken back. */
     begin(name) {
-        const source = this.of(name);
-        if (source !== null && source.trim() !== "") this.#keeper.keep(`before/${name}`, source);
+        this.#keepBefore(name, [...this.#allBefore(name), ...this.#written(name)]);
         this.#keeper.keep(`task/${name}`, null);
     }
 
-    /** Takes back what was there before: what was written since is then what can be taken back. */
+    /** Takes back what was there before. What was written since comes after all others, so that each can be had by taking back again. */
     takeBack(name) {
-        const [source, before] = [this.of(name), this.before(name)];
-        this.#keeper.keep(`task/${name}`, before);
-        this.#keeper.keep(`before/${name}`, source);
+        const before = this.#allBefore(name);
+        const source = before.pop() ?? null;
+        this.#keepBefore(name, [...this.#written(name), ...before]);
+        this.#keeper.keep(`task/${name}`, source);
     }
 }
 

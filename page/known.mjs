@@ -9,6 +9,9 @@ const bare = (order) => (order === null ? null : order.split(" ").slice(0, 2).jo
 
 const originBy = ({ order, at, clock, stored: { before } }) => ({ order: bare(order), at, clock, lost: bare(before.order) ?? `${before.digits} = ${before.number}` });
 
+/** The words of a reply, by their addresses. */
+const wordsIn = (reply) => new Map(replies.heldOf(reply).map((word) => [word.address, word]));
+
 /** What is known over a link. */
 export class Known {
     #link;
@@ -41,18 +44,24 @@ export class Known {
         return lines.length === 0 ? "" : this.#link.askAll(lines);
     }
 
-    /** Asks the tracks of addresses. */
-    async ask(addresses) {
-        const tracks = [...new Set(addresses.map(nameOfTrack))];
-        const reply = await this.#ask(tracks.map((track) => `show-data ${track}00 ${SECTORS}`));
-        this.#words = new Map(replies.heldOf(reply).map((word) => [word.address, word]));
+    /** Takes the words of a reply, in the place of those that were asked before. */
+    take(reply) {
+        this.#words = wordsIn(reply);
+        this.isTold = true;
+    }
+
+    /** Asks the tracks of addresses, of which some may have been taken just now. */
+    async ask(addresses, isTaken = false) {
+        const tracks = [...new Set(addresses.map(nameOfTrack))].filter((track) => !isTaken || !this.#words.has(`${track}00`));
+        const reply = await this.#ask(tracks.map((track) => `json show-data ${track}00 ${SECTORS}`));
+        this.#words = new Map([...(isTaken ? this.#words : []), ...wordsIn(reply)]);
         this.isTold = true;
     }
 
     /** Asks what put words of addresses there that a step has changed, where that is not known. */
     async askOrigins(addresses) {
         const asked = addresses.filter((address) => this.#words.get(address).isChanged && !this.#origins.has(address));
-        const origins = replies.originsOf(await this.#ask(asked.map((address) => `why-data ${address}`)));
+        const origins = replies.originsOf(await this.#ask(asked.map((address) => `json why-data ${address}`)));
         for (const address of asked) this.#origins.set(address, origins.get(address) ?? null);
     }
 

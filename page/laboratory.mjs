@@ -1,8 +1,8 @@
 // The controller. All that the page does is lines to the monitor, and all that it knows are their replies.
-import { addressIn, addressesFrom, isAmong, trackOf, windowAt } from "./addresses.mjs";
+import { PLACES, addressIn, addressOf, addressesFrom, isAmong, numberOf, trackOf, windowAt } from "./addresses.mjs";
 import { Deeds } from "./deeds.mjs";
 import { Known } from "./known.mjs";
-import { commandIn, commentsIn, isIdle, linesIn, setUp } from "./lines.mjs";
+import { commandIn, commentsIn, isIdle, linesIn, plainOf, setUp } from "./lines.mjs";
 import { Looks, SHOWN, costsIn, rowsIn } from "./looks.mjs";
 import * as replies from "./module/replies.mjs";
 import { NoMemory } from "./module/session.mjs";
@@ -264,7 +264,7 @@ export class Laboratory extends EventTarget {
     }
 
     #ask(line) {
-        if (commandIn(line) !== "trace-data") this.#known.forget();
+        if (commandIn(plainOf(line)) !== "trace-data") this.#known.forget();
         this.#room.sent(line);
         return this.#link.ask(line);
     }
@@ -276,7 +276,7 @@ export class Laboratory extends EventTarget {
         this.#said.push(line);
         this.#isTouched ||= !this.#isInScript && !this.isOnShow;
         const reply = await this.#ask(line);
-        this.talk = [...this.talk, { line, reply: isOwn ? `${replies.toldOf(reply).end}\n` : reply }].slice(-TALK_KEPT);
+        this.talk = [...this.talk, { line, reply: isOwn ? `${replies.reportOf(reply).end}\n` : reply }].slice(-TALK_KEPT);
         if (this.openSource !== null) await this.#sourceLine(line, reply);
         else if (replies.isRefusal(reply)) this.#refused(line, reply);
         else if (line.trim() === "source") this.openSource = [];
@@ -324,7 +324,7 @@ export class Laboratory extends EventTarget {
     }
 
     async #note(line, reply, isAgain) {
-        const [verb, operand] = line.trim().split(/ +/);
+        const [verb, operand] = plainOf(line).trim().split(/ +/);
         if (STEPS.has(verb)) await this.#noteStep(verb, line, isAgain);
         else if (verb === "orders") this.#noteOrders(replies.ordersOf(reply).orders, isAgain);
         else if (RUNS.has(verb)) await this.#noteRun(line, reply, isAgain);
@@ -355,17 +355,18 @@ export class Laboratory extends EventTarget {
     }
 
     async #noteRun(line, reply, isAgain) {
-        const [verb, limit, word] = line.trim().split(/ +/);
-        const { told, end } = replies.toldOf(reply);
+        const [verb, limit, word] = plainOf(line).trim().split(/ +/);
+        const isReport = commandIn(line) === "json";
+        const { told, end } = isReport ? replies.reportOf(reply) : replies.toldOf(reply);
         const before = this.accounts;
         const isRefused = replies.isRefusal(end);
         if (verb === "operate") this.#noteStarts(replies.startsOf(reply), Number(limit));
         if (isRefused) this.#forgetDeeds();
         else this.#noteEnd(replies.runOf(end), isAgain);
-        if (verb === "profile-data") this.profile = replies.profileOf(told);
-        if (verb === "trace-data") this.#noteTold(replies.accountsOf(told), before);
+        if (isReport && verb === "profile-data") this.profile = replies.profileOf(told);
+        if (isReport && verb === "trace-data") this.#noteTold(replies.accountsOf(told), before);
         if (verb === "drum") this.rows = replies.drumRowsOf(told);
-        if (verb === "optimum-data" && word !== undefined) this.#costsOfLine = costsIn(reply);
+        if (isReport && verb === "optimum-data" && word !== undefined) this.#costsOfLine = costsIn(reply);
         if (verb === "profile") this.profile = null;
         if (!isRefused && (["trace", "profile"].includes(verb) || (verb === "optimum" && word !== undefined))) await this.#tellAgain(line, replies.runOf(end).orders, before);
     }
@@ -391,8 +392,8 @@ export class Laboratory extends EventTarget {
         const count = verb === "trace" ? Math.min(orders, ACCOUNTS_KEPT) : orders;
         return this.#transcript.aside(async () => {
             if (replies.isRefusal(await this.#ask(`back ${count}`))) return true;
-            const reply = await this.#ask([`${verb}-data`, count, ...words].join(" "));
-            const { told, end } = replies.toldOf(reply);
+            const reply = await this.#ask(["json", `${verb}-data`, count, ...words].join(" "));
+            const { told, end } = replies.reportOf(reply);
             if (verb === "profile") this.profile = replies.profileOf(told);
             else if (verb === "optimum") this.#costsOfLine = costsIn(reply);
             else this.accounts = [...before, ...replies.accountsOf(told)].slice(-ACCOUNTS_KEPT);
@@ -444,7 +445,8 @@ export class Laboratory extends EventTarget {
     async #look() {
         if (this.openSource !== null) return;
         const isWhole = !this.#known.isTold;
-        await this.#lookAtState();
+        if (isWhole) this.#noteState(await this.#looks.state());
+        else await this.#lookAtOnce();
         const asked = [this.#lookAtWords(isWhole), this.#looks.others(this.questionsToo)];
         if (isWhole) asked.push(this.#looks.rules().then((rules) => { this.rules = rules; }));
         if (isWhole || this.#isPrinted) asked.push(this.#lookAtPaper());
@@ -454,9 +456,17 @@ export class Laboratory extends EventTarget {
         this.#hit = null;
     }
 
-    async #lookAtState() {
+    /** Looks at the state and at the track where the machine should be after the order that was told last, by one line. */
+    async #lookAtOnce() {
+        const told = this.accounts.at(-1)?.at ?? this.panel.counter;
+        const [track] = trackOf(addressOf((numberOf(told) + 1) % PLACES));
+        const { panel, live, reply } = await this.#looks.stateWith(track, this.printed.count);
+        this.#known.take(reply);
+        this.#noteState({ panel, live });
+    }
+
+    #noteState({ panel, live }) {
         const before = this.panel?.counter;
-        const { panel, live } = await this.#looks.state();
         Object.assign(this, { panel, costs: this.#costsOfLine });
         [this.#live, this.#costsOfLine] = [live, null];
         this.accounts = this.accounts.filter(({ clock }) => clock < panel.clock);
@@ -478,7 +488,7 @@ export class Laboratory extends EventTarget {
 
     async #lookAtWords(isWhole) {
         const track = trackOf(this.panel.counter);
-        await this.#known.ask([...track, ...this.#shown]);
+        await this.#known.ask([...track, ...this.#shown], !isWhole);
         if (isWhole) await this.#known.askOrigins(this.#shown);
         Object.assign(this, { words: this.#known.words(this.#shown), track: this.#known.words(track).map(({ address, digits }) => ({ address, text: digits })) });
     }
@@ -508,6 +518,14 @@ export class Laboratory extends EventTarget {
     /** Does lines one after another, as a button does: none of them is meant for a source. */
     command(...lines) {
         return this.#deed(() => this.#sayAll(lines));
+    }
+
+    /** Performs orders, at most this number, and shows where their word times went. */
+    addUp(limit) {
+        return this.#deed(async () => {
+            await this.#say(`json profile-data ${limit}`, false, true);
+            await this.#look();
+        });
     }
 
     async #sayAll(lines) {
@@ -541,9 +559,9 @@ export class Laboratory extends EventTarget {
 
     /** Performs orders with their accounts, and draws them where rows of the drum are wanted. */
     async #tell(limit, isAgain, withRows = true) {
-        const reply = await this.#say(`trace-data ${limit}`, isAgain, true);
-        if (replies.isRefusal(replies.toldOf(reply).end)) return 0;
-        const { orders } = replies.runOf(reply);
+        const { end } = replies.reportOf(await this.#say(`json trace-data ${limit}`, isAgain, true));
+        if (replies.isRefusal(end)) return 0;
+        const { orders } = replies.runOf(end);
         if (withRows && orders > 0) this.rows = rowsIn(this.accounts.slice(-orders));
         return orders;
     }
@@ -665,7 +683,7 @@ export class Laboratory extends EventTarget {
         await this.#transcript.aside(async () => {
             const rules = await this.#withoutRules();
             const orders = await this.#backOver(wanted);
-            const { told, end } = orders === 0 ? { told: [], end: "" } : replies.toldOf(await this.#ask(`trace-data ${orders}`));
+            const { told, end } = orders === 0 ? { told: [], end: "" } : replies.reportOf(await this.#ask(`json trace-data ${orders}`));
             await this.#askAll(rules);
             if (replies.isRefusal(end)) return false;
             this.accounts = replies.accountsOf(told);
@@ -828,7 +846,7 @@ export class Laboratory extends EventTarget {
     askCosts(address) {
         return this.#question(async () => {
             if (!this.knows("optimum-data")) return;
-            const [told] = await this.#overLast([(orders) => `optimum-data ${orders} ${address}`]);
+            const [told] = await this.#overLast([(orders) => `json optimum-data ${orders} ${address}`]);
             this.costs = costsIn(told);
         });
     }
@@ -837,8 +855,8 @@ export class Laboratory extends EventTarget {
     askPlacing(addresses) {
         return this.#question(async () => {
             const isTold = this.deeds.unbroken <= PLACED_AT_MOST;
-            const told = await this.#overLast([...(isTold ? [(orders) => `trace-data ${orders}`] : []), ...addresses.map((address) => (orders) => `optimum-data ${orders} ${address}`)]);
-            const accounts = isTold ? replies.accountsOf(replies.toldOf(told.shift()).told) : [];
+            const told = await this.#overLast([...(isTold ? [(orders) => `json trace-data ${orders}`] : []), ...addresses.map((address) => (orders) => `json optimum-data ${orders} ${address}`)]);
+            const accounts = isTold ? replies.accountsOf(replies.reportOf(told.shift()).told) : [];
             return { accounts, words: told.map(costsIn) };
         }).then((told) => told ?? null);
     }
@@ -853,7 +871,7 @@ export class Laboratory extends EventTarget {
             const rules = await this.#withoutRules();
             for (const line of lines) told.push(await this.#ask(line(await this.#backOver(this.deeds.unbroken))));
             await this.#askAll(rules);
-            const isAsBefore = told.every((reply) => !replies.isRefusal(replies.toldOf(reply).end));
+            const isAsBefore = told.every((reply) => !replies.isRefusal(replies.reportOf(reply).end));
             if (isAsBefore) this.#known = known;
             return isAsBefore;
         });

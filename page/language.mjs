@@ -161,7 +161,7 @@ export class Checker {
         }
         this.#sent += source.length;
         const reply = await this.#link.askAll(typedSource(linesIn(source)));
-        return new Checked(reply, await this.#link.ask("source-data"));
+        return new Checked(reply, await this.#link.ask("json source-data"));
     }
 
     #giveUp() {

@@ -30,7 +30,7 @@ export function commentsIn(lines) {
     }));
 }
 
-const RUNS = /^ *(run|orders|operate|trace|profile|drum|optimum|trace-data|profile-data|optimum-data)( |$)/;
+const RUNS = /^ *(?:json +)?(run|orders|operate|trace|profile|drum|optimum|trace-data|profile-data|optimum-data)( |$)/;
 const SOURCE = /^ *source *$/;
 const STARTS = /^ *press +start *$/;
 
@@ -53,6 +53,9 @@ export function setUp(lines, isBeforeStart = false) {
 
 /** Whether a line of a script asks for nothing. */
 export const isIdle = (line) => BLANK.test(line) || COMMENT.test(line);
+
+/** A line without `json` in front of it, which asks for the same in another form. */
+export const plainOf = (line) => line.replace(/^ *json +/, "");
 
 /** The first word of a line; blanks alone separate words. */
 export const commandIn = (line) => line.split(" ").find((word) => word !== "") ?? "";

@@ -21,16 +21,22 @@ export class Looks {
 
     /** The panel, what is live, and what lets the machine go on. */
     async state() {
-        const reply = await this.#link.ask("state-data");
+        const reply = await this.#link.ask("json state-data");
         return { panel: replies.panelOf(reply), live: replies.liveOf(reply) };
     }
 
+    /** The same by a reply that also has the words from an address on, and what was printed after the codes that are known. */
+    async stateWith(address, known) {
+        const reply = await this.#link.ask(`json look ${address} ${SECTORS} ${known}`);
+        return { panel: replies.panelOf(reply), live: replies.liveOf(reply), reply };
+    }
+
     async rules() {
-        return replies.rulesOf(await this.#link.ask("rules-data"));
+        return replies.rulesOf(await this.#link.ask("json rules-data"));
     }
 
     async labels() {
-        return replies.labelsOf(await this.#link.ask("labels-data"));
+        return replies.labelsOf(await this.#link.ask("json labels-data"));
     }
 
     async paper() {
@@ -51,7 +57,7 @@ export class Looks {
 
 /** What a reply of `optimum-data` tells of one word, with the sectors in the order in which they pass the head, none where no order named the word; and why its run was refused, where that was so. */
 export function costsIn(reply) {
-    const { told, end } = replies.toldOf(reply);
+    const { told, end } = replies.reportOf(reply);
     const { own, best, numbers, ...costs } = replies.costsOf(told);
     const passing = ["none", "unnamed"].includes(costs.kind) ? [] : Array.from({ length: SECTORS }, (unused, position) => sectorAt(position));
     const sectors = passing.map((sector) => ({ sector, times: numbers[sector], isOwn: sector === own, isBest: sector === best }));

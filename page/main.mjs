@@ -434,6 +434,7 @@ function makeSoundSwitch() {
     return control;
 }
 
+/** The bar at the top. It names the example that is open in Work; one that the hall, a story or a lesson shows is not named, so that it can be chosen. */
 function makeBar() {
     const { text } = texts;
     const choice = h("select", { id: "example", "aria-label": text("openExample"), onchange: () => examples.has(choice.value) && openExample(choice.value) },
@@ -443,7 +444,7 @@ function makeBar() {
         ...Object.entries(LANGUAGES).map(([code, table]) => h("option", { value: code, selected: code === texts.code }, table.language)));
     const view = { node: h("div", { class: "line choices", id: "choices", role: "toolbar", "aria-label": text("choices") }, choice, behind("work", button(text("new"), openBlank, { id: "new", title: text("newHint") })), behind("work", button(text("save"), save, { title: text("saveHint"), id: "save" })), behind("work", makeOpen(texts, openDropped)), behind("learn work", button(text("works"), showWorks, { id: "works", title: text("worksHint") })),
         makeSoundSwitch(), button(text("kiosk"), openKiosk, { id: "kiosk" }), button(text("about"), about, { id: "about" }), language),
-        show: () => { choice.value = examples.has(laboratory.script?.name) ? laboratory.script.name : ""; } };
+        show: () => { choice.value = placeNow().example ?? ""; } };
     return view;
 }
 
@@ -522,6 +523,7 @@ async function writeMoved(placing, orders, nameOf) {
     const [source, foretold] = [drafts.of("source") ?? laboratory.source, placing.times];
     const words = placing.moved.map((address) => ({ address, sector: placing.sectorOf(address), word: nameOf(address) }));
     if (source === "" || laboratory.loaded !== source) return laboratory.tell({ kind: "notMoved", wrong: "notLoadedNow" });
+    const hasFocus = document.activeElement.id === "write-moved";
     const { accounts } = await laboratory.askPlacing([]);
     const { text, places, ...wrong } = accounts.length === 0 ? { wrong: "tooLong" } : await movedSource(checker, source, accounts, words);
     if (text === undefined) return laboratory.tell({ kind: "notMoved", ...wrong });
@@ -532,6 +534,8 @@ async function writeMoved(placing, orders, nameOf) {
     await laboratory.run(orders);
     const again = await laboratory.askPlacing([]);
     await showCosts(places[0].place);
+    // its part was hidden as long as there were no costs
+    if (hasFocus) document.getElementById("write-moved").focus();
     return laboratory.tell({ kind: "moved", words: places, foretold: foretold - accounts[0].find, took: timesOf(again.accounts) - again.accounts[0].find });
 }
 

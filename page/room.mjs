@@ -8,7 +8,7 @@ import { commandIn } from "./lines.mjs";
  * most orders that one line tells, and the most signs of a source that is sent at once. */
 export const ROOM = { lines: 3_000_000, codes: 1_000_000, last: 10_000, asksAfter: 20_000, told: 10_000, source: 1_500_000 };
 
-const PERFORMS = /^ *(run|orders|operate|profile|trace|drum|optimum|profile-data|trace-data|optimum-data) +(\d+)(?: +\S+)? *$/;
+const PERFORMS = /^ *(?:json +)?(run|orders|operate|profile|trace|drum|optimum|profile-data|trace-data|optimum-data) +(\d+)(?: +\S+)? *$/;
 const TELL_EACH = ["trace", "drum", "trace-data"];
 const RUN = /^ *run +(\d{1,15}) *$/;
 const GIVE_ROOM = ["new", "back", "last"];

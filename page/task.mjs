@@ -103,7 +103,7 @@ const isAnswered = (reply) => !isRefusal(reply);
 async function asksOf(link, lines) {
     const asked = new Map();
     for (const { rest } of lines.filter(({ name }) => name === "want word" || name === "want shows")) {
-        const [word] = heldOf(await replyTo(link, `show-data ${rest.slice(0, 4)} 1`, isAnswered));
+        const [word] = heldOf(await replyTo(link, `json show-data ${rest.slice(0, 4)} 1`, isAnswered));
         asked.set(word.address, word);
     }
     return asked;
@@ -113,10 +113,10 @@ async function asksOf(link, lines) {
 async function tried(link, lines, about) {
     await link.ask("load");
     for (const line of beginning(lines)) await replyTo(link, line, (reply) => reply.startsWith("live") || reply.startsWith("ok"));
-    const before = panelOf(await link.ask("panel-data"));
+    const before = panelOf(await link.ask("json panel-data"));
     const reply = await replyTo(link, `run ${about.limit}`, (said) => isAnswered(said) || refusalOf(said).kind === "ClockEnd");
     const ran = isRefusal(reply) ? null : runOf(reply);
-    const after = panelOf(await link.ask("panel-data"));
+    const after = panelOf(await link.ask("json panel-data"));
     const printed = printedOf(await link.ask("printed")).text;
     const end = { ...about, ran, after, printed, times: after.clock - before.clock, asked: await asksOf(link, lines) };
     const atEnd = missingAtEnd(end, restsOf(lines, "want status")[0] ?? "halted stop");

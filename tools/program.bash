@@ -137,16 +137,16 @@ write_recorded() {
     ' "$top/.ci/calls.expected" 2>/dev/null
 }
 
-# Gives up where there is no toolchain either, in a line that names both ways out.
+# Before a run without proofs: help and version need none. Gives up where there is no toolchain either, in a line that names both ways out.
 need_way() {
-    ! command -v rt >/dev/null 2>&1 || return 0
     [ $# -eq 0 ] || ! write_recorded "$@" || exit 0
+    ! command -v rt >/dev/null 2>&1 || return 0
     if ! has_node; then
-        give_up "this needs node, 18 or later, which runs the proved module, or the Rattle toolchain, by which ./prove makes the program: neither is here"
+        give_up "this needs node, 18 or later, which runs the proved module, or the Rattle toolchain, with which ./prove makes the program: neither is installed"
     elif has_module; then
-        give_up "the proved module does not do what these words ask for: this needs the Rattle toolchain, by which ./prove makes the program"
+        give_up "the proved module cannot do what this command line asks for: it needs the Rattle toolchain, with which ./prove makes the program"
     fi
-    give_up "the proved module is not that of these sources, so node does not run it: this needs the Rattle toolchain, by which ./prove makes the program"
+    give_up "the proved module was not made from these sources, so node does not run it: this needs the Rattle toolchain, with which ./prove makes the program"
 }
 
 # How a program is run: as the proved program, else by the module, else without its proofs. For tests CONDUGWA_RUN names one of these.
@@ -154,7 +154,7 @@ way_of() {
     case ${CONDUGWA_RUN-} in
         program | module | unproved) echo "$CONDUGWA_RUN" ;;
         '') if is_proved "$1"; then echo program; elif has_module; then echo module; else echo unproved; fi ;;
-        *) give_up "CONDUGWA_RUN is program, module or unproved, and not '$CONDUGWA_RUN'" ;;
+        *) give_up "CONDUGWA_RUN may be program, module or unproved, and not '$CONDUGWA_RUN'" ;;
     esac
 }
 
@@ -166,7 +166,7 @@ mark_proved() {
 # A file for a launcher's own use; it is removed when the launcher ends.
 scratch=
 make_scratch() {
-    scratch=$(mktemp -d) || give_up "no file could be made for this run: $(mktemp -d 2>&1)"
+    scratch=$(mktemp -d) || give_up "no temporary folder could be made: $(mktemp -d 2>&1)"
     trap 'rm -rf "$scratch"' EXIT
     trap 'exit 129' HUP
     trap 'exit 130' INT
@@ -191,7 +191,7 @@ hand_over() {
                 continue
                 ;;
         esac
-        give_up "a run without proofs cannot be given a file by the name '$word': name it by its whole path, or run ./prove first"
+        give_up "a run without proofs cannot read a file under the name '$word': give its whole path, or run ./prove first"
     done
 }
 
@@ -207,19 +207,19 @@ run_unproved() {
     if grep -q "^run=ended status=$status " "$scratch/notes"; then
         # What the monitor saves stays only where it was named by its whole path.
         if kept=$(grep -am 1 '^saved [^/]' "$scratch/output"); then
-            give_up "a run without proofs keeps files in a folder that is gone when it ends, and this one replies '$kept': name the file by its whole path, or run ./prove $crate first"
+            give_up "a run without proofs keeps files in a folder that is gone when it ends, and this one replies '$kept': give the file's whole path, or run ./prove $crate first"
         fi
         # The last two lines are the toolchain's, the ones before them what the program wrote on standard error.
         head -n -2 "$scratch/notes" >&2
-        cat "$scratch/output" || give_up "what the program wrote could not be passed on"
+        cat "$scratch/output" || give_up "the output of the program could not be written"
         exit "$status"
     fi
     if grep -q '^checked: no-answer: the program wrote more than' "$scratch/notes"; then
-        give_up "a run without proofs may write 1,048,576 bytes at most, and this one writes more: ./prove makes the proved program, which has no such limit"
+        give_up "a run without proofs may write at most 1,048,576 bytes, and this one writes more: ./prove makes the proved program, which has no such limit"
     fi
     if grep -q '^checked: no-answer: the program did not end within the time limit' "$scratch/notes"; then
-        give_up "a run without proofs may take 60 seconds at most, and this one takes longer: ./prove makes the proved program, which has no such limit"
+        give_up "a run without proofs may take at most 60 seconds, and this one takes longer: ./prove makes the proved program, which has no such limit"
     fi
     cat "$scratch/notes" >&2
-    give_up "the program was not run to its end, as said above"
+    give_up "the program did not run to its end; the reason is above"
 }

@@ -17,7 +17,7 @@ function granted(reply) {
 }
 
 /** The words of a record of `show-data`, as one line. */
-export const valueOf = (record) => ["digits", "order", "number", "fraction"].flatMap((key) => record.get(key)?.trim() ?? []).join("  ");
+export const valueOf = (record) => ["digits", "order", "number", "fraction"].flatMap((key) => record.get(key)?.toString().trim() ?? []).join("  ");
 
 export class Machine {
     #openSession;
@@ -56,13 +56,13 @@ export class Machine {
         return granted(shown(this.#recorded.answer(typed(line))));
     }
 
-    #records(line, first) {
-        return replies.recordsOf(replies.linesOf(this.#told(line)), first);
+    #records(line) {
+        return replies.recordsOf(this.#told(`json ${line}`));
     }
 
     /** Whether a line only asks, by its command; undefined where it has none. */
     isQuestion(line) {
-        this.#commands ??= new Map(this.#records("commands-data", "command").map((record) => [record.get("command"), record.get("asks") === "yes"]));
+        this.#commands ??= new Map(this.#records("commands-data").map((record) => [record.get("command"), record.get("asks") === "yes"]));
         return this.#commands.get(wordsOf(line)[0]);
     }
 
@@ -88,34 +88,34 @@ export class Machine {
 
     /** The fields of `state-data`. */
     state() {
-        return this.#records("state-data", "counter")[0];
+        return this.#records("state-data")[0];
     }
 
     /** The words from an address on, as `show-data` has them. */
     words(address, count = 1) {
-        return this.#records(`show-data ${address} ${count}`, "address");
+        return this.#records(`show-data ${address} ${count}`);
     }
 
     /** The word at what may be an address; the monitor says whether it is, and a refused line leaves no trace. */
     word(address) {
         if (/\s/.test(address) || address === "") throw new Refused(`${JSON.stringify(address)} is no address and no label`);
-        return replies.recordsOf(replies.linesOf(this.asks(`show-data ${address} 1`)), "address")[0];
+        return replies.recordsOf(this.asks(`json show-data ${address} 1`))[0];
     }
 
     why(address) {
-        return this.#records(`why-data ${address}`, "address")[0];
+        return this.#records(`why-data ${address}`)[0];
     }
 
     labels() {
-        return this.#records("labels-data", "name");
+        return this.#records("labels-data");
     }
 
     rules() {
-        return this.#records("rules-data", "rule");
+        return this.#records("rules-data");
     }
 
     tape() {
-        return new Map(replies.linesOf(this.#told("tape-data")).map((line) => [wordsOf(line)[0], line.slice(wordsOf(line)[0].length + 1)]));
+        return this.#records("tape-data")[0];
     }
 
 
@@ -125,7 +125,7 @@ export class Machine {
     }
 
     source() {
-        return this.#told("source-data");
+        return this.#told("json source-data");
     }
 
     /** Performs orders, and says how many, and why that ended. */
@@ -235,10 +235,10 @@ export class Machine {
 
     /** The accounts of the last orders, at most this number: it goes back over them and performs them again, which leaves no trace. */
     lastOrders(most) {
-        const orders = Math.min(most, this.#orders, Number(this.state().get("kept")));
+        const orders = Math.min(most, this.#orders, this.state().get("kept"));
         if (orders === 0) return [];
         this.asks(`back ${orders}`);
-        return Array.from({ length: orders }, () => replies.toldOf(this.asks("trace-data 1")).told);
+        return Array.from({ length: orders }, () => replies.reportOf(this.asks("json trace-data 1")).told[0]);
     }
 
     /** What was said of a word before the last order was performed. */

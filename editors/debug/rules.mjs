@@ -57,7 +57,7 @@ export class Rules {
     }
 
     #numbers() {
-        return new Map(this.#machine.rules().map((record) => [nameOf({ kind: record.get("kind"), address: record.get("address") }), Number(record.get("rule"))]));
+        return new Map(this.#machine.rules().map((record) => [nameOf({ kind: record.get("kind"), address: record.get("address") }), record.get("rule")]));
     }
 
     /** Drops the monitor's rules that are wanted no more, and adds those that are missing. */
@@ -101,7 +101,7 @@ export class Rules {
     hitNow(number) {
         const stopped = this.rule(number);
         const counter = this.#machine.state().get("counter");
-        const isHit = ({ kind, address }) => (kind === "break" ? address === counter : this.#machine.why(address).get("by-ago") === "1");
+        const isHit = ({ kind, address }) => (kind === "break" ? address === counter : this.#machine.why(address).get("by-ago") === 1);
         const hit = this.#wanted().filter((point) => nameOf(point) === nameOf(stopped) || isHit(point));
         return { stopped, hit, isOfConsole: !this.#own.has(nameOf(stopped)) };
     }

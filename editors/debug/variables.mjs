@@ -17,7 +17,7 @@ const SET = {
 const BESIDE = ["label", "order", "number"];
 
 const leaf = (name, value, more = {}) => ({ name, value, variablesReference: 0, ...more });
-const pairsOf = (record) => [...record].map(([name, value]) => leaf(name, value));
+const pairsOf = (record) => [...record].map(([name, value]) => leaf(name, String(value)));
 
 export class Variables {
     #machine;
@@ -43,7 +43,7 @@ export class Variables {
         switch (reference) {
             case REGISTERS: return this.#registers();
             case WAY: return this.#switches();
-            case TAPE: return [...this.#machine.tape()].map(([name, value]) => leaf(name, value));
+            case TAPE: return [...this.#machine.tape()].map(([name, value]) => leaf(name, String(value)));
             case LABELS: return this.#machine.labels().map((label) => this.#labelled(label.get("name"), label.get("place")));
             case STEPS: return this.#steps();
             default: return this.#openedAt(reference);
@@ -87,9 +87,8 @@ export class Variables {
 
     #steps() {
         const orders = this.#machine.lastOrders(LAST_ORDERS);
-        const shown = orders.map((lines) => new Map(lines.map((line) => [line.slice(0, line.indexOf(" ")), line.slice(line.indexOf(" ") + 1)])));
-        const kept = leaf("kept", this.#machine.state().get("kept"));
-        return [kept, ...shown.reverse().map((account, ago) => ({
+        const kept = leaf("kept", String(this.#machine.state().get("kept")));
+        return [kept, ...orders.reverse().map((account, ago) => ({
             name: `${ago + 1} ago`, value: `${account.get("at")}  ${account.get("order") ?? account.get("status")}  ${account.get("after")}`,
             variablesReference: this.#reference(() => pairsOf(account)) }))];
     }

@@ -30,7 +30,7 @@ function waitText(laboratory, source, line, cost) {
 function wordText(laboratory, source, line) {
     if (line.digits === null) return [];
     const { word, cost } = laboratory.wordAt(line);
-    const shown = ["address", "digits", "order", "number", "fraction"].flatMap((key) => word.get(key)?.trim() ?? []).join("  ");
+    const shown = ["address", "digits", "order", "number", "fraction"].flatMap((key) => word.get(key)?.toString().trim() ?? []).join("  ");
     return [`\`${shown}\``, ...(word.has("order") ? waitText(laboratory, source, line, cost) : [])];
 }
 

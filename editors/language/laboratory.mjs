@@ -1,6 +1,6 @@
 // What the language server knows: all of it is asked of a laboratory.
 import { LINE_LIMIT } from "../../page/module/lines.mjs";
-import { isRefusal, linesOf, recordsOf, refusalOf } from "../../page/module/replies.mjs";
+import { isRefusal, recordsOf, refusalOf } from "../../page/module/replies.mjs";
 import { bytesOf } from "../../page/module/session.mjs";
 import { Source } from "../../page/module/source.mjs";
 
@@ -41,20 +41,20 @@ export class Laboratory {
         }
     }
 
-    #records(line, first) {
+    #records(line) {
         this.#opened(0);
-        return recordsOf(linesOf(this.#answer(line)), first);
+        return recordsOf(this.#answer(`json ${line}`));
     }
 
     /** The operations of the language by their names. */
     get operations() {
-        this.#operations ??= new Map(this.#records("operations-data", "operation").map((record) => [record.get("operation"), record]));
+        this.#operations ??= new Map(this.#records("operations-data").map((record) => [record.get("operation"), record]));
         return this.#operations;
     }
 
     /** The kinds of faults by their names. */
     get faults() {
-        this.#faults ??= new Map(this.#records("faults-data", "fault").map((record) => [record.get("fault"), record]));
+        this.#faults ??= new Map(this.#records("faults-data").map((record) => [record.get("fault"), record]));
         return this.#faults;
     }
 
@@ -79,15 +79,15 @@ export class Laboratory {
             const long = lines.findIndex((line) => line.length > LINE_LIMIT);
             throw new TooLong(refusal.reason ?? refusal.kind, long < 0 ? null : long + 1);
         }
-        return new Source(this.#answer("source-data"));
+        return new Source(this.#answer("json source-data"));
     }
 
     /** A word at its place, as `show-data` has it, and what it would cost there. */
     wordAt({ place, digits }) {
         this.#opened(0);
         this.#answer(`put ${place} ${digits}`);
-        const [word] = this.#records(`show-data ${place} 1`, "address");
-        const reply = this.#answer(`cost ${place}`);
-        return { word, cost: isRefusal(reply) ? null : recordsOf(linesOf(reply), "address")[0] };
+        const [word] = this.#records(`show-data ${place} 1`);
+        const reply = this.#answer(`json cost ${place}`);
+        return { word, cost: isRefusal(reply) ? null : recordsOf(reply)[0] };
     }
 }

@@ -19,7 +19,7 @@ test("a program is loaded, and stops at a breakpoint, at its end, and one step f
     assert.deepEqual([frame.name, frame.line, frame.source.path, frame.instructionPointerReference], ["0001  a 0005", 2, "/sum", "0001"]);
     await client.asks("continue", { threadId: 1 });
     const end = await client.event("stopped");
-    assert.deepEqual([end.reason, end.description], ["halted stop", "a stop order halted the machine: press start continues"]);
+    assert.deepEqual([end.reason, end.description], ["halted stop", "a stop order halted the machine: press start to continue"]);
     await client.asks("stepBack", { threadId: 1 });
     assert.equal((await client.event("stopped")).reason, "step");
     assert.equal((await client.asks("stackTrace", { threadId: 1 })).stackFrames[0].line, 4);

@@ -105,6 +105,6 @@ test("the words of the command lines", () => {
         assert.equal(ran("--version").stdout.toString(), `${name} ${version}\n`);
         assert.match(ran("--stdio", "-h").stdout.toString(), /--stdio .*standard input and output/);
         const { status, stderr } = ran("--fly");
-        assert.deepEqual([status, stderr.toString()], [64, `${name}: --fly is no word of this program; --help lists them\n`]);
+        assert.deepEqual([status, stderr.toString()], [64, `${name}: --fly is not an option of this program; --help lists them\n`]);
     }
 });

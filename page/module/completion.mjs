@@ -2,7 +2,7 @@
 import { readdirSync, statSync } from "node:fs";
 import { dirname, join } from "node:path";
 import { wordsOf } from "./lines.mjs";
-import { SWITCHES, commandsOf, linesOf, liveOf, recordsOf } from "./replies.mjs";
+import { SWITCHES, commandsOf, liveOf, recordsOf } from "./replies.mjs";
 
 const POSITIONS = ["up", "down"];
 
@@ -53,16 +53,16 @@ export class Completion {
 
     /** The buttons that do something now, and the switches. */
     async #keys() {
-        const { live } = liveOf(await this.#ask("state-data"));
+        const { live } = liveOf(await this.#ask("json state-data"));
         return [...live, ...SWITCHES];
     }
 
     /** The labels of the last source with their addresses, the addresses of the rules, and the counter. */
     async #places() {
-        const records = async (line, first) => recordsOf(linesOf(await this.#ask(line)), first);
-        const labels = (await records("labels-data", "name")).flatMap((label) => [label.get("name"), ...(label.has("place") ? [label.get("place")] : [])]);
-        const rules = (await records("rules-data", "rule")).map((rule) => rule.get("label") ?? rule.get("address"));
-        const [panel] = await records("panel-data", "counter");
+        const records = async (line) => recordsOf(await this.#ask(`json ${line}`));
+        const labels = (await records("labels-data")).flatMap((label) => [label.get("name"), ...(label.has("place") ? [label.get("place")] : [])]);
+        const rules = (await records("rules-data")).map((rule) => rule.get("label") ?? rule.get("address"));
+        const [panel] = await records("panel-data");
         return [...labels, ...rules, panel.get("counter")];
     }
 }

@@ -1,5 +1,5 @@
 // The monitor at a desk: lines that are typed until `quit`, each perhaps above its reply.
-import { objectOf } from "./json.mjs";
+import { isForPrograms, objectOf } from "./json.mjs";
 import { frontOf, isLonger, linesIn, wordsOf } from "./lines.mjs";
 import { isRefusal, panelOf, printedOf } from "./replies.mjs";
 
@@ -53,15 +53,21 @@ export class Desk {
     /** The prompt after the last line. */
     get prompt() {
         if (this.#recorded.isSourceOpen) return "source> ";
-        const { counter, status } = panelOf(this.#recorded.ask("panel-data"));
+        const { counter, status } = panelOf(this.#recorded.ask("json panel-data"));
         return `${counter} ${status}> `;
     }
 
     /** What is written for a line; the note says where it comes from, and is empty for one that is typed. */
     line(line, note) {
         if (!this.#recorded.isSourceOpen && wordsOf(line).join(" ") === "quit" && !isLonger(line)) return this.#leave(line);
-        const reply = this.#recorded.answer(line);
+        const reply = this.#replyTo(line);
         return this.#written(frontOf(line) + (isLonger(line) ? " .." : ""), reply, note);
+    }
+
+    /** The reply to a line. Where replies are objects, so are the records of those for programs. */
+    #replyTo(line) {
+        const isByObjects = this.#manner === "json" && this.takesCommands && isForPrograms(line) && wordsOf(line)[0] !== "json" && !isLonger(`json ${line}`);
+        return isByObjects ? this.#recorded.answerBy(`json ${line}`, line) : this.#recorded.answer(line);
     }
 
     /** A reply of the desk itself as it is written, with the note after a refusal. */

@@ -2,7 +2,8 @@
 import { spawn } from "node:child_process";
 import { once } from "node:events";
 import { createInterface } from "node:readline";
-import { bytesFrom } from "./lines.mjs";
+import { escapedOf } from "./json.mjs";
+import { bytesFrom, wordsOf } from "./lines.mjs";
 
 const INDENT = "        ";
 /** A question whose reply tells that the objects for a line have come: nobody else writes it with these spaces. */
@@ -57,8 +58,18 @@ export class ModuleEngine {
     }
 }
 
-/** The lines of a reply of the native program: a string is one, and of an object each key with its value. */
-const replyLines = (reply) => reply.flatMap((line) => (typeof line === "string" ? [line] : Object.entries(line).map(([key, value]) => `${key === "refusal" ? "?" : key} ${value}`)));
+/** A value of a record as a line has it. */
+function valueText(value) {
+    if (typeof value === "boolean") return value ? "yes" : "no";
+    return Array.isArray(value) ? value.join(" ") : escapedOf(String(value));
+}
+
+/** The lines of a record: as one object where objects are asked for, or of each key that has a value with it. */
+const recordLines = (record, isObject) => (
+    isObject ? [JSON.stringify(record)] : Object.entries(record).filter(([, value]) => value !== null).map(([key, value]) => `${key} ${valueText(value)}`));
+
+/** The lines of a reply of the native program to a line. */
+const replyLines = (reply, line) => reply.flatMap((it) => (typeof it === "string" ? [it] : recordLines(it, wordsOf(line)[0] === "json")));
 
 /** The native program, which answers each line by an object of JSON. */
 export class ProgramEngine {
@@ -108,7 +119,7 @@ export class ProgramEngine {
     }
 
     #written(objects, note) {
-        const linesOf = ({ reply, refused, from = note }) => [...replyLines(reply), ...(refused && from !== "" ? [`${INDENT}${from}`] : [])];
+        const linesOf = ({ line = "", reply, refused, from = note }) => [...replyLines(reply, line), ...(refused && from !== "" ? [`${INDENT}${from}`] : [])];
         return objects.flatMap(linesOf).map((line) => `${line}\n`).join("");
     }
 

@@ -113,7 +113,7 @@ export class Front {
 
     async #prompt() {
         if (this.#source !== null || this.#engine.isSourceOpen) return "source> ";
-        const { counter, status } = panelOf(await this.#engine.ask("panel-data"));
+        const { counter, status } = panelOf(await this.#engine.ask("json panel-data"));
         return `${counter} ${status}> `;
     }
 
@@ -226,13 +226,13 @@ export class Front {
     async #press(line) {
         const reply = await this.#engine.type(line);
         this.#say(reply);
-        if (reply === "dead\n") this.#note(`${INDENT}these do something now: ${[...liveOf(await this.#engine.ask("state-data")).live].join(" ")}`);
+        if (reply === "dead\n") this.#note(`${INDENT}these do something now: ${[...liveOf(await this.#engine.ask("json state-data")).live].join(" ")}`);
         await this.#keep();
     }
 
     async #traceNarrow(limit) {
-        const reply = await this.#engine.type(`trace-data ${limit}`);
-        this.#say(isRefusal(reply) ? reply.replaceAll("trace-data", "trace") : narrowTrace(reply).map((row) => `${row}\n`).join(""));
+        const reply = await this.#engine.type(`json trace-data ${limit}`);
+        this.#say(isRefusal(reply) ? reply.replaceAll("json trace-data", "trace") : narrowTrace(reply).map((row) => `${row}\n`).join(""));
         await this.#keep();
     }
 
@@ -316,7 +316,7 @@ export class Front {
     }
 
     async #sayWhere() {
-        const { counter } = panelOf(await this.#engine.ask("panel-data"));
+        const { counter } = panelOf(await this.#engine.ask("json panel-data"));
         this.#note(`${INDENT}stopped by Ctrl-C before its end, at ${counter}`);
     }
 }

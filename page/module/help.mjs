@@ -66,13 +66,13 @@ export class Help {
         return parts.length === 0 ? null : parts.flatMap((lines, place) => (place === 0 ? lines : ["", ...lines]));
     }
 
-    async #records(line, first) {
-        return recordsOf(linesOf(await this.#ask(line)), first).map((record) => Object.fromEntries(record));
+    async #records(line) {
+        return recordsOf(await this.#ask(`json ${line}`)).map((record) => Object.fromEntries(record));
     }
 
     /** All commands, with those of the terminal in the place of the monitor's where both have one. */
     async #commands() {
-        const told = await this.#records("commands-data", "command");
+        const told = await this.#records("commands-data");
         const own = [...this.#own].map(([command, { operands, does }]) => ({ command, group: "terminal", operands, does }));
         return [...told.filter(({ command }) => !this.#own.has(command)), ...own];
     }
@@ -115,13 +115,13 @@ export class Help {
 
     /** The sixteen orders: what each does, and which wait for the word at their address. */
     async #orders() {
-        const orders = (await this.#records("operations-data", "operation")).filter(({ operation }) => operation.length === 1);
+        const orders = (await this.#records("operations-data")).filter(({ operation }) => operation.length === 1);
         return ["the sixteen orders; those with a + wait for the word at their address:", ...table(orders.map(({ operation, waits, does }) => [`${operation} ${waits === "yes" ? "+" : " "}`, does]))];
     }
 
     /** A line of a source, and the operations that are no orders. */
     async #language() {
-        const others = (await this.#records("operations-data", "operation")).filter(({ operation }) => operation.length > 1);
+        const others = (await this.#records("operations-data")).filter(({ operation }) => operation.length > 1);
         return [...wrapped("", LINE_OF_A_SOURCE, 0).map((line) => line.trim()), "Its operations are the sixteen orders, and these:", ...table(others.map(({ operation, does, example }) => [operation, `${does}: ${example}`]))];
     }
 }

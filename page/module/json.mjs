@@ -2,27 +2,22 @@
 import { wordsOf } from "./lines.mjs";
 import { isRefusal, linesOf } from "./replies.mjs";
 
-/** Whether the replies of a command have a key and a value on each line. */
-const hasKeys = (command = "") => ["live", "commands", "cost"].includes(command) || command.endsWith("-data");
+/** Whether the replies to a line are for programs: then it is asked so that each line of them is an object. */
+export const isForPrograms = (line) => {
+    const [command = ""] = wordsOf(line);
+    return ["json", "look", "cost"].includes(command) || command.endsWith("-data");
+};
 
-/** A string: each byte but the printed characters of ASCII by its number. */
-function stringOf(text) {
-    const escaped = text.replace(/["\\]|[^ -~]/g, (sign) => (/["\\]/.test(sign) ? `\\${sign}` : `\\u00${sign.charCodeAt(0).toString(16).padStart(2, "0")}`));
-    return `"${escaped}"`;
-}
+/** A text with each byte but the printed characters of ASCII by its number. */
+export const escapedOf = (text) => text.replace(/["\\]|[^ -~]/g, (sign) => (/["\\]/.test(sign) ? `\\${sign}` : `\\u00${sign.charCodeAt(0).toString(16).padStart(2, "0")}`));
 
-/** A line as an object of its key and its value; the key of a refusal says that it is one. */
-function keyedOf(line) {
-    const [word] = wordsOf(line);
-    const value = line.slice(line.indexOf(word) + word.length).replace(/^ +/, "");
-    return `{${stringOf(word === "?" ? "refusal" : word)}:${stringOf(value)}}`;
-}
+const stringOf = (text) => `"${escapedOf(text)}"`;
 
 /** What is written for a line and its reply, with where the line comes from; the line is null for a reply of the desk itself. */
 export function objectOf(line, reply, note) {
     const isRefused = isRefusal(reply);
-    const isKeyed = line !== null && !isRefused && hasKeys(wordsOf(line)[0]);
-    const lines = linesOf(reply).map((it) => it.replace(/\r$/, "")).map(isKeyed ? keyedOf : stringOf);
+    const hasObjects = line !== null && !isRefused && isForPrograms(line);
+    const lines = linesOf(reply).map((it) => it.replace(/\r$/, "")).map((it) => (hasObjects && !isRefusal(it) ? it : stringOf(it)));
     const typed = line === null ? "" : `"line":${stringOf(line)},`;
     return `{${typed}"reply":[${lines}],"refused":${isRefused}${note === "" ? "" : `,"from":${stringOf(note)}`}}\n`;
 }

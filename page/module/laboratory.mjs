@@ -52,7 +52,7 @@ export class Laboratory {
     }
 
     panel() {
-        return replies.panelOf(this.answer("panel-data"));
+        return replies.panelOf(this.answer("json panel-data"));
     }
 
     words(address, count = 1) {
@@ -64,20 +64,20 @@ export class Laboratory {
     }
 
     trace(limit) {
-        return replies.accountsOf(this.#told("trace-data", limit));
+        return replies.accountsOf(this.#told(replies.reportOf, "json trace-data", limit));
     }
 
     profile(limit) {
-        return replies.profileOf(this.#told("profile-data", limit));
+        return replies.profileOf(this.#told(replies.reportOf, "json profile-data", limit));
     }
 
     drum(limit) {
-        return replies.drumRowsOf(this.#told("drum", limit));
+        return replies.drumRowsOf(this.#told(replies.toldOf, "drum", limit));
     }
 
     /** What stands before the reply of the run. Where the clock's end has broken the run off, that refusal is thrown. */
-    #told(command, limit) {
-        const { told, end } = replies.toldOf(this.answer(`${command} ${limit}`));
+    #told(read, command, limit) {
+        const { told, end } = read(this.answer(`${command} ${limit}`));
         if (replies.isRefusal(end)) throw new Refusal(end);
         return told;
     }

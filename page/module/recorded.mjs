@@ -1,6 +1,7 @@
 // A session of the monitor that can be asked without a trace: what was asked for a terminal or a file stands in the module's transcript, and is
 // left out where the transcript is written.
 import { bytesFrom, linesIn, standInOf, textFrom, wordsOf } from "./lines.mjs";
+import { isRefusal } from "./replies.mjs";
 
 const isWord = (line, word) => {
     const words = wordsOf(line);
@@ -53,6 +54,15 @@ export class Recorded {
         const reply = this.#reply(line);
         for (let at = before; at < this.#lines().length; at++) this.#asked.add(at);
         return reply;
+    }
+
+    /** The reply to another line in the place of one. Where it is refused, it leaves no trace, and the line itself is answered. */
+    answerBy(other, line) {
+        const before = this.#lines().length;
+        const reply = this.#reply(other);
+        if (!isRefusal(reply)) return reply;
+        for (let at = before; at < this.#lines().length; at++) this.#asked.add(at);
+        return this.answer(line);
     }
 
     /** The reply to the end. */

@@ -67,21 +67,21 @@ export const fractionOf = (digits) => signedOf(digits) / 2 ** 31;
 /** A word read as a whole number with the point behind place 30: half of its bits. */
 export const wholeOf = (digits) => Math.floor(signedOf(digits) / 2);
 
-/** A value as it was before it was written in a line: there quotation marks and backslashes have a backslash before them, and other bytes are `\u` and four digits. */
-const valueIn = (written) => (written.includes("\\") ? JSON.parse(`"${written}"`) : written);
-
-/** Lines of a key, a blank and a value as records, each a value by its key. A record begins at each line whose key is among the first ones. */
-export function recordsOf(lines, ...firsts) {
-    const records = [];
-    for (const line of lines) {
-        const end = line.indexOf(" ");
-        const key = line.slice(0, Math.max(end, 0));
-        if (firsts.includes(key)) records.push(new Map());
-        const record = records.at(-1);
-        if (end < 0 || record === undefined || record.has(key)) throw misread("line of a key and a value", line);
-        record.set(key, valueIn(line.slice(end + 1)));
+/** The records of a reply for programs, an object of JSON on each line: each a value by its key. A key without a value is left out. */
+export function recordsOf(reply) {
+    try {
+        return linesOf(reply).map((line) => new Map(Object.entries(JSON.parse(line)).filter(([, value]) => value !== null)));
+    } catch {
+        throw misread("records", reply);
     }
-    return records;
+}
+
+/** What a run tells of its orders to a program: the records, and what ends it: the record of the run, or the line of a refusal. */
+export function reportOf(reply) {
+    const lines = linesOf(reply);
+    const last = lines.pop() ?? "";
+    const [end] = isRefusal(last) ? [] : recordsOf(last);
+    return { told: recordsOf(lines.join("\n")), end: end === undefined ? last : `ran ${valueOf(end, "ran")}`, state: end?.get("state") ?? null };
 }
 
 /** The value of a key. */
@@ -101,9 +101,9 @@ function placeOf(value) {
 /** The switches of a panel by their names in `press`. */
 export const SWITCHES = ["bp32", "bp16", "bp8", "bp4", "transfer", "sixbit"];
 
-/** What a panel shows, of a reply of `panel-data` or `state-data`. The clock is a BigInt, since it may have 62 bits. */
+/** What a panel shows, of a reply of `panel-data`, `state-data` or `look`. The clock is a BigInt, since it may have 62 bits. */
 export function panelOf(reply) {
-    const [record] = recordsOf(linesOf(reply), "counter");
+    const [record] = recordsOf(reply);
     if (record === undefined) throw misread("panel", reply);
     const texts = ["counter", "accumulator", "register", "status", "mode"].map((key) => [key, valueOf(record, key)]);
     return {
@@ -120,11 +120,11 @@ const LIVE = "live-";
 /** The names of what is live, and what lets the machine go on, of a reply of `state-data`: its kind is `go` where orders are performed, `keys`, `start`, or
  * `mode` where the button of a mode comes first. */
 export function liveOf(reply) {
-    const [record] = recordsOf(linesOf(reply), "counter");
+    const [record] = recordsOf(reply);
     if (record === undefined) throw misread("state", reply);
     const [first, second] = valueOf(record, "way").split("-");
     const way = second === undefined ? { kind: first === "orders" ? "go" : first } : { kind: "mode", mode: first };
-    const live = [...record].filter(([key, value]) => key.startsWith(LIVE) && value === "yes").map(([key]) => key.slice(LIVE.length));
+    const live = [...record].filter(([key, value]) => key.startsWith(LIVE) && value).map(([key]) => key.slice(LIVE.length));
     return { live: new Set(live), way };
 }
 
@@ -189,16 +189,16 @@ function originOf({ order, at, clock, lost }) {
     return { order: order ?? null, at: at ?? null, clock: BigInt(clock), lost };
 }
 
-/** Words, of replies of `show-data` or `why-data`: the address, the digits, the order, which is null where the word is none, and, of the first, whether a step that is kept has changed it. */
-export const heldOf = (reply) => recordsOf(linesOf(reply), "address").map((record) => (
-    { address: valueOf(record, "address"), digits: valueOf(record, "digits"), order: record.get("order") ?? null, isChanged: record.get("changed") === "yes" }));
+/** Words, of replies of `show-data`, `look` or `why-data`: the address, the digits, the order, which is null where the word is none, and, of the first, whether a step that is kept has changed it. */
+export const heldOf = (reply) => recordsOf(reply).filter((record) => record.has("address")).map((record) => (
+    { address: valueOf(record, "address"), digits: valueOf(record, "digits"), order: record.get("order") ?? null, isChanged: record.get("changed") === true }));
 
 /** What a word was, as the record of another one that took its place says it: the order, or the digits and the number. */
 const lostIn = (record) => record.get("before-order") ?? `${valueOf(record, "before")} = ${valueOf(record, "before-number")}`;
 
 /** What replies of `why-data` say of the origins of their words, by the addresses; a word that no kept step has changed has none. */
 export function originsOf(reply) {
-    const changed = recordsOf(linesOf(reply), "address").filter((record) => valueOf(record, "changed-by") !== "none");
+    const changed = recordsOf(reply).filter((record) => valueOf(record, "changed-by") !== "none");
     return new Map(changed.map((record) => [valueOf(record, "address"), originOf({ order: record.get("by-order"), at: record.get("by-at"), clock: valueOf(record, "by-clock"), lost: lostIn(record) })]));
 }
 
@@ -239,12 +239,12 @@ function accountOf(record) {
         inRegister: record.get("at") === IN_REGISTER, origin: putThereOf(record), stored: storedOf(record),
         printed: record.has("printed") ? { code: numberOf(record, "printed"), sign: record.get("sign") ?? null } : null,
         passed: Number(record.get("passed") ?? 0),
-        notes: [...record].filter(([key]) => !ACCOUNT_KEYS.has(key)).map((line) => line.join(" ")),
+        notes: [...record].filter(([key]) => !ACCOUNT_KEYS.has(key)).map((field) => field.join(" ")),
     };
 }
 
-/** The accounts in front of the line that ends a reply of `trace-data`. */
-export const accountsOf = (lines) => recordsOf(lines, "clock").map(accountOf);
+/** The accounts that a reply of `trace-data` tells. */
+export const accountsOf = (records) => records.map(accountOf);
 
 /** Rows of `drum`: the clock of each turn, and after two blanks its signs, one for each word time. */
 export const drumRowsOf = (lines) => lines.map((line) => {
@@ -255,9 +255,8 @@ export const drumRowsOf = (lines) => lines.map((line) => {
 
 const PARTS = ["find", "take", "seek", "act", "elsewhere"];
 
-/** The lines of `profile-data`: the totals, the parts of an order by their keys, and the places with most word times. Per cents are rounded down. */
-export function profileOf(lines) {
-    const [whole, ...places] = recordsOf(lines, "orders", "place");
+/** The records of `profile-data`: the totals, the parts of an order by their keys, and the places with most word times. Per cents are rounded down. */
+export function profileOf([whole, ...places]) {
     if (whole === undefined) throw misread("profile", "");
     const times = numberOf(whole, "times");
     const share = (name, part) => ({ name, times: part, percent: times === 0 ? 0 : Math.floor((100 * part) / times) });
@@ -268,22 +267,20 @@ export function profileOf(lines) {
     };
 }
 
-/** What orders would have taken with one word at each sector, of the lines of `optimum-data NUMBER ttss`: `numbers` by sector. `kind` is `free` where the word may be moved, and `none` where
+/** What orders would have taken with one word at each sector, of the records of `optimum-data NUMBER ttss`: `numbers` by sector. `kind` is `free` where the word may be moved, and `none` where
  * no order was performed; where it may not, `reason` says why, and nothing is saved. */
-export function costsOf(lines) {
-    const [record] = recordsOf(lines, "orders");
+export function costsOf([record]) {
     if (record === undefined) throw misread("optimum of a word", "");
     const orders = numberOf(record, "orders");
     const kind = orders === 0 ? "none" : valueOf(record, "freedom");
     return {
         orders, times: numberOf(record, "times"), address: kind === "none" ? null : valueOf(record, "word"), label: record.get("label") ?? null,
         own: numberOf(record, "sector"), best: numberOf(record, "best"), saved: kind === "free" ? numberOf(record, "saved") : 0,
-        kind, reason: kind === "free" ? null : valueOf(record, "freedom-sentence"), numbers: valueOf(record, "numbers").split(" ").map(numberIn),
+        kind, reason: kind === "free" ? null : valueOf(record, "freedom-sentence"), numbers: valueOf(record, "numbers").map(Number),
     };
 }
 
-/** What a run tells of its orders, and the line that ends it. What the monitor says after that line begins with a blank, or for programs with
- * the key `state`. */
+/** What a run tells of its orders, and the line that ends it. What the monitor says after that line begins with a blank, or with the key `state`. */
 export function toldOf(reply) {
     const lines = linesOf(reply);
     const last = lines.findLastIndex((line) => !line.startsWith(" ") && !line.startsWith("state "));
@@ -306,7 +303,7 @@ export function sourceOf(reply) {
 /** The labels of the last source, by their addresses, of a reply of `labels-data`; a place may have several. A label whose value is past the drum is left out. */
 export function labelsOf(reply) {
     const labels = new Map();
-    for (const record of recordsOf(linesOf(reply), "name").filter((it) => it.has("place"))) {
+    for (const record of recordsOf(reply).filter((it) => it.has("place"))) {
         const place = record.get("place");
         labels.set(place, [...(labels.get(place) ?? []), valueOf(record, "name")]);
     }
@@ -314,7 +311,7 @@ export function labelsOf(reply) {
 }
 
 /** The rules in the order of their numbers, each by the command that made it and the label of its address, of a reply of `rules-data`. */
-export const rulesOf = (reply) => recordsOf(linesOf(reply), "rule").map((record) => (
+export const rulesOf = (reply) => recordsOf(reply).map((record) => (
     [valueOf(record, "kind"), valueOf(record, "address"), ...(record.has("label") ? [record.get("label")] : [])].join(" ")));
 
 /** The commands by their names, of a reply of `commands`: whether each only asks, and what it takes. */

@@ -40,7 +40,7 @@ export function compiled(bytes) {
         return checked(new WebAssembly.Module(bytes));
     } catch (failure) {
         if (failure instanceof NoModule) throw failure;
-        throw new NoModule(`these bytes are no module that is taken here: ${failure.message}`);
+        throw new NoModule(`these bytes are not a module that can be used here: ${failure.message}`);
     }
 }
 

@@ -1,6 +1,6 @@
 // What a terminal shows beside the replies: where the machine is, the panel in a few lines, and accounts in 80 columns. All of it is read from
 // replies that are asked for when it is shown.
-import { accountsOf, fractionOf, linesOf, recordsOf, toldOf } from "./replies.mjs";
+import { accountsOf, fractionOf, recordsOf, reportOf } from "./replies.mjs";
 
 /** Of more codes that were printed only the count is shown. */
 const MOST_PRINTED = 20_000;
@@ -24,7 +24,7 @@ export class Views {
     async around(address, count) {
         const before = Math.floor((count - 1) / 2);
         const first = Math.max(0, Math.min(numberOf(address) - before, 4096 - count));
-        const words = recordsOf(linesOf(await this.#ask(`show-data ${addressOf(first)} ${count}`)), "address");
+        const words = recordsOf(await this.#ask(`json show-data ${addressOf(first)} ${count}`));
         return words.map((word) => {
             const isMarked = word.get("address") === address;
             const line = `${isMarked ? ">" : " "} ${word.get("address")} ${left(word.get("label") ?? "", 8)}  ${word.get("digits")}  ${word.get("order") ?? ""}`.trimEnd();
@@ -45,7 +45,7 @@ export class Views {
     }
 
     async #state() {
-        const [state] = recordsOf(linesOf(await this.#ask("state-data")), "counter");
+        const [state] = recordsOf(await this.#ask("json state-data"));
         return state;
     }
 
@@ -62,7 +62,7 @@ export class Views {
     }
 
     async #codesAfter(count) {
-        return recordsOf(linesOf(await this.#ask(`paper-data ${count}`)), "printed");
+        return recordsOf(await this.#ask(`json paper-data ${count}`));
     }
 
     /** What was printed since this was asked last, as its signs; null where nothing was. The last code is asked for too: where it is gone, the machine went back. */
@@ -97,14 +97,13 @@ const accumulatorOf = (state) => `accumulator ${state.get("accumulator")} = ${st
 const numberOf = (address) => Number(address.slice(0, 2)) * 64 + Number(address.slice(2));
 const addressOf = (number) => [Math.floor(number / 64), number % 64].map((part) => String(part).padStart(2, "0")).join("");
 
-const [STATE, INDENT] = ["state ", "        "];
+const INDENT = "        ";
 
 /** The reply of `trace-data` as a table of 80 columns, with the lines that end it. */
 export function narrowTrace(reply) {
-    const { told, end } = toldOf(reply);
-    const state = linesOf(reply).slice(told.length + 1).map((line) => (line.startsWith(STATE) ? INDENT + line.slice(STATE.length) : line));
+    const { told, end, state } = reportOf(reply);
     const rows = accountsOf(told).flatMap(narrowRow);
-    return [...(rows.length > 0 ? [HEADING] : []), ...rows, end, ...state];
+    return [...(rows.length > 0 ? [HEADING] : []), ...rows, end, ...(state === null ? [] : [INDENT + state])];
 }
 
 const HEADING = "   clock at            order         find take seek act   sum accumulator";

@@ -2,14 +2,15 @@
 import assert from "node:assert/strict";
 import { test } from "node:test";
 import { costsIn } from "../looks.mjs";
+import { replyOf } from "../module/tests/told_as_json.mjs";
 import { costsText } from "../views/costs.mjs";
 import { LANGUAGES, textsIn } from "../words.mjs";
 
 /** The reply of `optimum-data` about a word in sector 28, for which sector 25 would have cost least. */
-const replyWith = ({ best = 25, least = 125541, freedom = "free", sentence = "it may be moved", end = "ran 2355 limit" } = {}) => [
+const replyWith = ({ best = 25, least = 125541, freedom = "free", sentence = "it may be moved", end = "ran 2355 limit" } = {}) => replyOf([
     "orders 2355", "times 150629", "word 0128", "label wage", "sector 28", `best ${best}`, `saved ${150629 - least}`, `freedom ${freedom}`, `freedom-sentence ${sentence}`,
-    `numbers ${Array.from({ length: 64 }, (unused, sector) => (sector === best ? least : 150629)).join(" ")}`, end, "",
-].join("\n");
+    `numbers ${Array.from({ length: 64 }, (unused, sector) => (sector === best ? least : 150629)).join(" ")}`,
+], [end]);
 const told = (reply) => costsText(costsIn(reply), textsIn("en"));
 
 test("where a word lies, what the orders took, where it would have cost least and what it would save", () => {
@@ -22,17 +23,17 @@ test("the sectors come in the order in which they pass the head, each with its w
     const { sectors } = costsIn(replyWith());
     assert.deepEqual(sectors.slice(0, 3).map(({ sector }) => sector), [0, 57, 50]);
     assert.deepEqual(sectors.filter(({ isOwn, isBest }) => isOwn || isBest), [{ sector: 25, times: 125541, isOwn: false, isBest: true }, { sector: 28, times: 150629, isOwn: true, isBest: false }]);
-    assert.deepEqual(costsIn(replyWith({ freedom: "unnamed", sentence: "no order named it: wherever it is, they take as long" })).sectors, []);
+    assert.deepEqual(costsIn(replyWith({ freedom: "unnamed", sentence: "no order named it, so its sector makes no difference" })).sectors, []);
 });
 
 test("a reason is told as the monitor gives it, and so is why a run was refused", () => {
-    const reason = "it is not to be moved, since it was performed as an order";
+    const reason = "it should not be moved, because it was performed as an order";
     const [sentence, said] = told(replyWith({ freedom: "performed", sentence: reason }));
     assert.match(sentence, /in sector 25 they would have taken 125,541, but the word is an order of the program/);
     assert.equal(said, `The monitor says: ${reason}`);
     const refusal = "? 4 ClockEnd: the clock would pass its end";
-    const unnamed = "no order named it: wherever it is, they take as long";
-    const none = ["orders 0", "times 0", "word 0128", "sector 28", "best 28", "saved 0", "freedom unnamed", `freedom-sentence ${unnamed}`, `numbers ${Array(64).fill(0).join(" ")}`, refusal, ""].join("\n");
+    const unnamed = "no order named it, so its sector makes no difference";
+    const none = replyOf(["orders 0", "times 0", "word 0128", "sector 28", "best 28", "saved 0", "freedom unnamed", `freedom-sentence ${unnamed}`, `numbers ${Array(64).fill(0).join(" ")}`]) + `${refusal}\n`;
     assert.deepEqual([told(none).slice(1), costsIn(none).sectors], [[`The monitor says: ${unnamed}`, `The monitor says: ${refusal}`], []]);
 });
 

@@ -125,6 +125,25 @@ test("the source of a task that is begun anew is taken back, and the other way",
     assert.deepEqual([sources.of("sum"), sources.before("sum")], [" y", " z"]);
 });
 
+test("of a task that is begun anew several times each source can be had again, ten at most; one that was kept alone is taken over", () => {
+    const keeper = new Keeper();
+    keeper.keep("before/sum", " a");
+    const sources = new Sources(keeper);
+    assert.equal(sources.before("sum"), " a");
+    for (const source of [" b", " c"]) {
+        sources.keep("sum", source);
+        sources.begin("sum");
+    }
+    sources.keep("sum", " d");
+    const taken = Array.from({ length: 5 }, () => { sources.takeBack("sum"); return sources.of("sum"); });
+    assert.deepEqual(taken, [" c", " b", " a", " d", " c"]);
+    for (let made = 0; made < 12; made += 1) {
+        sources.keep("sum", ` ${made}`);
+        sources.begin("sum");
+    }
+    assert.deepEqual([keeper.of("before/sum").length, sources.before("sum")], [10, " 11"]);
+});
+
 test("what an earlier page has kept is taken over once", () => {
     const shelf = storage();
     for (const [name, value] of [["condugwa-last-session", "put 0000 z\nrun 1\n"], ["condugwa-task-sum", " z"], ["other", "x"]]) shelf.setItem(name, value);

@@ -176,7 +176,7 @@ live("before memory ends nothing more is begun, and all can be saved", async (la
         await deed();
         assert.equal(laboratory.notice.kind, "usedUp");
     }
-    assert.ok(link.sent.slice(sent).every((line) => /^(state-data|show-data|why-data|paper|rules-data)/.test(line)));
+    assert.ok(link.sent.slice(sent).every((line) => /^(paper|json (state-data|look|show-data|why-data|rules-data))/.test(line)));
     assert.match(await laboratory.transcript(), /^put 0000 00083100\n/);
     assert.equal(await laboratory.say("words 0000 1"), "0000 00083100\n");
     const { behind } = laboratory.deeds;
@@ -236,7 +236,7 @@ live("a script has what the reader did: no look, no row of the drum, no ring of 
     const script = await laboratory.transcript();
     assert.equal(script, "put 0000 000100j8\nput 0001 000q00j8\nput 0002 00000000\nbreak 0100\npress start\nrun 1\nrun 1\nrun 1\nwords 0050 1\n");
     assert.ok((await link.ask("transcript")).length > script.length);
-    assert.deepEqual(laboratory.lines.slice(4), ["press start", "trace-data 1", "trace 1", "profile 1", "words 0050 1"]);
+    assert.deepEqual(laboratory.lines.slice(4), ["press start", "json trace-data 1", "trace 1", "profile 1", "words 0050 1"]);
     const { clock } = laboratory.panel;
     await laboratory.openSaved("saved", script);
     assert.deepEqual([laboratory.panel.clock, laboratory.performed], [clock, 3]);
@@ -271,7 +271,7 @@ live("a laboratory is restored by its lines, a source that is open and a half-do
 
 live("a line that could print or tell more than memory holds is not begun", async (laboratory) => {
     await laboratory.say("put 0000 p =h", "put 0001 u 0000", "press start");
-    for (const [line, most] of [["orders 2000000", ROOM.codes], ["profile 1000001", ROOM.codes], ["trace 20000", ROOM.told], [" drum  20000 ", ROOM.told], ["trace-data 10001", ROOM.told], ["profile-data 1000001", ROOM.codes]]) {
+    for (const [line, most] of [["orders 2000000", ROOM.codes], ["profile 1000001", ROOM.codes], ["trace 20000", ROOM.told], [" drum  20000 ", ROOM.told], ["json trace-data 10001", ROOM.told], ["profile-data 1000001", ROOM.codes]]) {
         await laboratory.say(line);
         assert.deepEqual(laboratory.notice, { kind: "tooMany", line, most });
     }
@@ -447,7 +447,7 @@ live("what a line of the reader tells in columns, the page shows as well", async
     await laboratory.say("profile 5000");
     assert.deepEqual([laboratory.profile, laboratory.deeds.behind], [null, 5005]);
     await laboratory.step();
-    assert.deepEqual(laboratory.talk.at(-1), { line: "trace-data 1", reply: "ran 1 limit\n" });
+    assert.deepEqual(laboratory.talk.at(-1), { line: "json trace-data 1", reply: "ran 1 limit\n" });
 });
 
 live("the last orders are the last ones, or none", async (laboratory) => {
@@ -514,7 +514,7 @@ live("what a word would have cost is asked of the last orders, and the machine a
 live("of a long run the orders are asked for that are kept, and of none that is said", async (laboratory) => {
     await laboratory.say("put 0000 b 0000", "put 0001 a 0003", "put 0002 u 0000", "press start");
     await laboratory.askCosts("0003");
-    assert.deepEqual([laboratory.costs.kind, laboratory.costs.address, laboratory.costs.reason], ["none", null, "no order named it: wherever it is, they take as long"]);
+    assert.deepEqual([laboratory.costs.kind, laboratory.costs.address, laboratory.costs.reason], ["none", null, "no order named it, so its sector makes no difference"]);
     await laboratory.run(6000);
     const { panel } = laboratory;
     for (const [address, kind] of [["0003", "free"], ["0005", "unnamed"], ["0002", "unnamed"], ["0000", "performed"]]) {

@@ -82,6 +82,6 @@ test("every kind of fault that the monitor knows has its sentence", () => {
         for (const kind of Object.keys(faultKinds)) assert.ok(["MissingOperand", "BadOperand", "UnknownName"].includes(kind) || rightFor[kind] !== undefined, kind);
         assert.ok(rightOperand.order.length > 0);
     }
-    assert.deepEqual(new Checked("? 9 Faults\nline 1 NoEnd\n", "line 1\nfault NoEnd\n").faults, [{ line: 1, kind: "NoEnd", from: 0, to: 0 }]);
+    assert.deepEqual(new Checked("? 9 Faults\nline 1 NoEnd\n", '{"line":1,"fault":"NoEnd"}\n').faults, [{ line: 1, kind: "NoEnd", from: 0, to: 0 }]);
     assert.equal(new Checked("? 11 TooLong: no\n", "").refusal.kind, "TooLong");
 });

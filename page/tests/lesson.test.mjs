@@ -101,7 +101,7 @@ test("each row of the race's table is what a profile of that placement tells, in
             const source = places.split(" ").reduce((text, place, at) => text.replace(new RegExp(`org \\d{4}\n${names[at]}`), `org ${place}\n${names[at]}`), written);
             await laboratory.new();
             await laboratory.load(source);
-            await laboratory.command("profile-data 10000");
+            await laboratory.addUp(10000);
             const number = (value) => value.toLocaleString(code);
             assert.deepEqual([number(laboratory.profile.times), number(laboratory.profile.turns), laboratory.panel.accumulator], [times, turns, "00000006"], places);
         }

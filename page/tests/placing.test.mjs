@@ -7,7 +7,7 @@ import { fileURLToPath } from "node:url";
 import { SECTORS, sectorOf } from "../addresses.mjs";
 import { Laboratory } from "../laboratory.mjs";
 import { Checker } from "../language.mjs";
-import { accountsOf, panelOf, toldOf } from "../module/replies.mjs";
+import { accountsOf, panelOf, reportOf } from "../module/replies.mjs";
 import { ModuleLink } from "../module_link.mjs";
 import { Placing, freePlace, movedSource, timesOf, withWordAt } from "../placing.mjs";
 
@@ -55,9 +55,9 @@ async function took(link, source) {
     await link.anew();
     const loaded = await link.askAll(["source", ...source.split("\n"), ".", "load"]);
     assert.match(loaded, /^loaded \d+$/m, source);
-    const [{ find, clock }] = accountsOf(toldOf(await link.ask("trace-data 1")).told);
+    const [{ find, clock }] = accountsOf(reportOf(await link.ask("json trace-data 1")).told);
     assert.match(await link.ask("run 10000"), /^ran \d+ rest$/m);
-    return Number(panelOf(await link.ask("panel-data")).clock - clock) - find;
+    return Number(panelOf(await link.ask("json panel-data")).clock - clock) - find;
 }
 
 const sourceIn = (script) => /^source\n([^]*?)\n\.$/m.exec(script)[1];

@@ -30,16 +30,18 @@ async function sentBy(link, deed) {
     return link.sent.slice(before);
 }
 
-test("a Step sends three lines, and one more where something was printed, whatever the example", { skip }, async () => {
+test("a Step sends two lines, one more where it goes to another track or something was printed, and never more than three", { skip }, async () => {
     const { link, laboratory } = await opened();
     let steps = 0;
     for (const name of names) {
         await laboratory.openScript(name, exampleNamed(name));
         for (let step = 0; step < 60 && laboratory.way.kind === "go"; step += 1) {
             const lines = await sentBy(link, () => laboratory.step());
-            assert.deepEqual([lines[0], lines[1], lines.slice(3)], ["trace-data 1", "state-data", lines.length > 3 ? ["paper"] : []], `${name}, step ${step}: ${lines.join("; ")}`);
-            assert.match(lines[2], /^show-data \d\d00 64$/, name);
-            assert.equal(lines.length > 3, laboratory.accounts.at(-1).printed !== null, name);
+            const said = `${name}, step ${step}: ${lines.join("; ")}`;
+            assert.equal(lines[0], "json trace-data 1", said);
+            assert.match(lines[1], /^json look \d\d00 64 \d+$/, said);
+            assert.ok(lines.length <= 3 && lines.slice(2).every((line) => line === "paper" || /^json show-data \d\d00 64$/.test(line)), said);
+            assert.equal(lines.includes("paper"), laboratory.accounts.at(-1).printed !== null, said);
             steps += 1;
         }
     }
@@ -55,7 +57,7 @@ test("after twenty steps the transcript has the lines that set the machine up, a
     });
     assert.deepEqual(linesOf(await link.ask("transcript")), [...before, ...Array(20).fill("run 1")]);
     assert.equal(await laboratory.transcript(), `${before.join("\n")}\n${"run 1\n".repeat(20)}`);
-    assert.equal(lines.length, 60, lines.join("; "));
+    assert.ok(lines.length <= 60, lines.join("; "));
 });
 
 test("a Step after the costs of a word were asked, or the page has shown another part of the drum, asks no more", { skip }, async () => {
@@ -73,11 +75,11 @@ test("a Step after the costs of a word were asked, or the page has shown another
 async function saidNow(laboratory, link) {
     const addresses = laboratory.words.map(({ address }) => address);
     const track = trackOf(laboratory.panel.counter);
-    const told = heldOf(await link.askAll([...addresses, ...track].map((address) => `show-data ${address} 1`)));
+    const told = heldOf(await link.askAll([...addresses, ...track].map((address) => `json show-data ${address} 1`)));
     const shown = (word) => ({ address: word.address, digits: word.digits, order: word.order ?? `word ${word.digits}` });
     return {
         words: told.slice(0, addresses.length).map(shown), track: told.slice(addresses.length).map(({ address, digits: text }) => ({ address, text })),
-        rules: rulesOf(await link.ask("rules-data")), printed: paperOf(await link.ask("paper")), origins: originsOf(await link.askAll(addresses.map((address) => `why-data ${address}`))),
+        rules: rulesOf(await link.ask("json rules-data")), printed: paperOf(await link.ask("paper")), origins: originsOf(await link.askAll(addresses.map((address) => `json why-data ${address}`))),
     };
 }
 

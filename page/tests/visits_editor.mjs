@@ -4,7 +4,7 @@ import assert from "node:assert/strict";
 const settled = (browser) => browser.value("laboratoryOfPage().settled()");
 const pause = (milliseconds) => new Promise((resolve) => { setTimeout(resolve, milliseconds); });
 const given = (name, otherwise) => Number(process.env[name] ?? otherwise);
-/** The most milliseconds of a key, and of a task while a text is pasted or Work is opened. */
+/** The most milliseconds of a key, and of a task while a text is pasted or the page is opened. */
 const [LONGEST_KEY, LONGEST_EDIT] = [given("LONGEST_KEY", 16), given("LONGEST_EDIT", 100)];
 
 const EDITOR = "document.querySelector('.source .CodeMirror').CodeMirror";
@@ -175,17 +175,27 @@ async function pasting(browser, address) {
     return end === null ? undefined : `longest task ${longest.toFixed(0)} ms`;
 }
 
-/** Opening Work keeps the page busy for no long time on end. */
-async function openingWork(browser, address) {
+/** Loading the page at any door, and going from the hall to Work, keeps the page busy for no long time on end. */
+async function opening(browser, address) {
     if (browser.ask === undefined) return "but not measured, since this browser tells of no tasks";
     const end = await noteTasks(browser);
-    await browser.open(`${address}?lang=en&door=work#self-modifying`);
+    const longest = {};
+    for (const behind of ["door=work#self-modifying", "story=2", "lesson=rewriting&step=13", "task=sum", "kiosk=message", "door=hall"]) {
+        await browser.open(`${address}?lang=en&${behind}`);
+        await settled(browser);
+        await pause(1500);
+        longest[behind] = await longestTask(browser);
+    }
+    await browser.value("void longTasks.splice(0)");
+    await browser.press(".hall [data-door-to='work']");
+    await browser.waitFor("document.body.dataset.door === 'work'");
     await settled(browser);
     await pause(1500);
-    const longest = await longestTask(browser);
+    longest["from the hall to Work"] = await longestTask(browser);
     await end();
-    assert.ok(longest <= LONGEST_EDIT, `a task of ${longest} milliseconds while Work was opened`);
-    return `longest task ${longest.toFixed(0)} ms`;
+    const told = Object.entries(longest).map(([where, milliseconds]) => `${where} ${milliseconds.toFixed(0)} ms`).join(", ");
+    assert.ok(Math.max(...Object.values(longest)) <= LONGEST_EDIT, `the longest tasks while the page was opened: ${told}`);
+    return `longest tasks: ${told}`;
 }
 
 /** The card comes and goes by one key, beside what is written; it lights the operation of the line, and the focus stays. Other keys run the program, and go an order on and back. */
@@ -214,7 +224,7 @@ async function card(browser, address) {
     }
 }
 
-const VISITS = { card, changedWords, writing, editing, apart, keys, pasting, openingWork };
+const VISITS = { card, changedWords, writing, editing, apart, keys, pasting, opening };
 
 /** The visits of the editor of the page at an address, by their names. */
 export const visitsOfEditor = (address) => Object.fromEntries(Object.entries(VISITS).map(([name, visit]) => [name, (browser) => visit(browser, address)]));

@@ -136,7 +136,7 @@ async function played(browser, address) {
     for (const program of PROGRAMS) {
         const costs = await told(program);
         await browser.waitFor(`${isRead} && document.querySelector(${JSON.stringify(gripOf(program.words[0]))}) !== null`);
-        assert.deepEqual([await timesIn(browser), await browser.value("document.querySelector('#faster-back').disabled")], [costs.took, true], program.name);
+        assert.deepEqual([await timesIn(browser), await browser.value("document.querySelector('#faster-back').getAttribute('aria-disabled') === 'true'")], [costs.took, true], program.name);
         assert.match(await leadIn(browser), /^Each round of this loop takes \d+ turns of the drum\. Take a word by its grip/);
         for (const word of program.words) await carry(browser, word, wayTo(costs, word));
         assert.deepEqual([await timesIn(browser), (await shown(browser, program.words[0])).drawn], [costs.least, costs.least], program.name);
@@ -164,7 +164,7 @@ async function over(browser, address) {
     const own = await timesIn(browser);
     await browser.waitFor("document.querySelector('#faster-best')?.isConnected");
     await browser.press("#faster-best");
-    assert.deepEqual([await timesIn(browser), await leadIn(browser), await browser.value("document.activeElement.id")], [2142, "This is the best: each word comes after an order that uses it, before the next one has gone by. The same orders take 2,142 word times in place of 2,910.", "faster-back"]);
+    assert.deepEqual([await timesIn(browser), await leadIn(browser), await browser.value("document.activeElement.id")], [2142, "This is the best: each word comes after an order that uses it, before the next one has gone by. The same orders take 2,142 word times instead of 2,910.", "faster-back"]);
     await browser.press("#faster-back");
     assert.deepEqual([await timesIn(browser), (await shown(browser, "0022")).text.slice(0, 10)], [own, `sector ${String(sectorAt(positionOf(22) - 3)).padStart(2, "0")}:`]);
     await browser.value("(globalThis.isOld = true, location.reload())").catch(() => {});
@@ -406,7 +406,7 @@ async function carried(browser, address) {
     const [x, y] = await browser.value(`(() => { const { left, top, width, height } = document.querySelectorAll(".drum .cell .face")[${best}].getBoundingClientRect(); return [left + width / 2, top + height / 2].map(Math.round); })()`);
     await browser.lead([await middleOf(browser, ".drum .grip"), "down", [x, y], "up"]);
     await browser.press("#write-moved");
-    await notice(browser, /^wage is at \d{4} now\. The source was loaded and run: from its first order on it took [\d,]+ word times, as was foretold\.$/);
+    await notice(browser, /^wage is at \d{4} now\. The source was loaded and run: from its first order on it took [\d,]+ word times, as predicted\.$/);
     assert.match(await browser.written(), new RegExp(`\n org \\d\\d${String(best).padStart(2, "0")}\nwage int 30 30\n {5}org 0021\nrent`));
     await browser.value("document.querySelector('.source .CodeMirror').CodeMirror.undo()");
     assert.equal(await browser.written(), SOURCE);
@@ -472,7 +472,7 @@ async function carriedTogether(browser, address) {
     const foretold = await compared(browser, costs, places);
     await keptCarried(browser, costs, places);
     await browser.press("#write-moved");
-    await notice(browser, /^wage is at \d{4} now\. rent is at \d{4} now\. debt is at \d{4} now\. The source was loaded and run: from its first order on it took [\d,]+ word times, as was foretold\.$/);
+    await notice(browser, /^wage is at \d{4} now\. rent is at \d{4} now\. debt is at \d{4} now\. The source was loaded and run: from its first order on it took [\d,]+ word times, as predicted\.$/);
     const written = await browser.written();
     for (const [word, sector] of places) assert.match(written, new RegExp(`org \\d\\d${String(sector).padStart(2, "0")}\n${new Map(WORDS).get(word)} int`));
     await browser.value("document.querySelector('.source .CodeMirror').CodeMirror.undo()");
@@ -606,7 +606,7 @@ async function turnedByKeys(browser, address) {
         await browser.waitFor(`laboratoryOfPage().panel.clock === ${accounts[order].clock}n`);
     }
     await browser.strike("ArrowLeft");
-    await notice(browser, /^There is no order to go back over\.$/);
+    await notice(browser, /^There is no earlier order to go back to\.$/);
     if (browser.media === undefined) return "but not without motion, since this browser cannot be told of that";
     await browser.media({ "prefers-reduced-motion": "reduce" });
     for (const [key, by] of [["ArrowRight", 1], ["ArrowUp", 2], ["ArrowLeft", 1], ["ArrowDown", 0]]) {

@@ -114,12 +114,15 @@ const WAYS = {
     "going back": goneBack,
 };
 
+/** Which of the controls are pressed: all, or in a slow engine each third. */
+const pressed = ({ engine }, place) => engine !== "WebKit" || place % 3 === 1;
+
 /** Presses each control that is seen behind a door, one after another, after something was written in Work; and goes each of the ways after each third. */
 async function pressEach(browser, door) {
     const goThere = () => (door === "work" ? undefined : press(browser, `.doors [data-door-to="${door}"]`));
     await backToWork(browser);
     await goThere();
-    const controls = await browser.value(`${CONTROLS}.map(([name]) => name)`);
+    const controls = (await browser.value(`${CONTROLS}.map(([name]) => name)`)).filter((unused, place) => pressed(browser, place));
     for (const [round, name] of controls.entries()) {
         if (await browser.value("document.documentElement.lang !== 'en'")) await otherLanguage(browser);
         await goThere();
@@ -142,7 +145,7 @@ async function eachControl(browser, address) {
     await noteKeys(browser);
     let count = 0;
     for (const door of ["work", "learn", "look"]) count += await pressEach(browser, door);
-    assert.ok(count > 80, `${count} controls`);
+    assert.ok(count > (browser.engine === "WebKit" ? 25 : 80), `${count} controls`);
     await browser.open(`${address}?lang=en&door=work`);
     return `${count} controls`;
 }
@@ -185,6 +188,19 @@ async function afterNew(browser, address) {
     assert.deepEqual(await state(), ["tables/primes", true, true, "#tables/primes"]);
     await browser.value("laboratoryOfPage().say('new')");
     assert.deepEqual((await state()).slice(0, 2), ["", false]);
+}
+
+/** An example that the hall, a story or a lesson shows is not named as the one that is open, so it can be chosen there. */
+async function exampleFromAnywhere(browser, address) {
+    for (const behind of ["door=hall", "story=2", "lesson=rewriting&step=13"]) {
+        await browser.open(`${address}?lang=en&${behind}`);
+        await settled(browser);
+        assert.equal(await browser.value("document.getElementById('example').value"), "", behind);
+        await choose(browser, "example", "self-modifying");
+        await browser.waitFor("document.body.dataset.door === 'work' && location.hash === '#self-modifying'");
+        await settled(browser);
+        assert.deepEqual([await browser.value("document.getElementById('example').value"), (await panelOf(browser)).status], ["self-modifying", "going"], behind);
+    }
 }
 
 /** The list has the last ten works, the newest first. */
@@ -278,8 +294,13 @@ async function places(browser, address) {
     await browser.press("#begin-task");
     assert.notEqual(await valueOf(browser, ".task-desk .CodeMirror"), " z ; mine");
     await again(browser);
-    await browser.press("#take-back-task");
-    assert.equal(await valueOf(browser, ".task-desk .CodeMirror"), " z ; mine");
+    await write(browser, ".task-desk .CodeMirror", " z ; another");
+    await browser.press("#begin-task");
+    await again(browser);
+    for (const source of [" z ; another", " z ; mine", " z ; another", " z ; mine"]) {
+        await browser.press("#take-back-task");
+        assert.equal(await valueOf(browser, ".task-desk .CodeMirror"), source);
+    }
     await browser.open(`${address}?lang=en&story=2`);
     const caption = () => browser.value("[document.querySelector('[data-tale][aria-pressed=true]')?.dataset.tale, document.querySelector('.caption-at').textContent, location.search]");
     assert.deepEqual(await caption(), ["rewrite", "1 of 5", "?lang=en&story=2&caption=1"]);
@@ -306,7 +327,7 @@ async function languageKept(browser, address) {
     assert.equal(await browser.value("document.documentElement.lang"), "en");
 }
 
-const VISITS = { eachControl, undo, afterNew, tenWorks, stepsByAddress, places, languageKept };
+const VISITS = { eachControl, undo, afterNew, exampleFromAnywhere, tenWorks, stepsByAddress, places, languageKept };
 
 /** The visits of the page at an address, by their names. */
 export const visitsOfKept = (address) => Object.fromEntries(Object.entries(VISITS).map(([name, visit]) => [name, (browser) => visit(browser, address)]));

@@ -179,6 +179,81 @@ async function small(browser, address) {
     assert.ok(await nodes() < 2000, String(await nodes()));
 }
 
+/** Notices with something to press, each as the page tells it. */
+const NOTICES = {
+    rule: { kind: "rule", number: 0, rule: "watch 0011 guess", isOfScript: true }, printed: { kind: "printedMuch", count: 20_000 }, used: { kind: "usedUp" }, before: { kind: "before", lines: "put 0000 z", work: "none" }, kept: { kind: "beforeKept", work: "none" },
+};
+
+/** Of the notice that is shown: by how much it has to be scrolled, and which of its controls are not hit by themselves. */
+const notWhole = (browser, id = "notice") => browser.value(`(async () => {
+    document.getElementById("${id}").scrollIntoView({ block: "center" });
+    await new Promise((resolve) => requestAnimationFrame(() => requestAnimationFrame(resolve)));
+    const [it, within] = [document.getElementById("${id}"), document.querySelector(".pace") ?? document.body];
+    const [box, outer] = [it.getBoundingClientRect(), within.getBoundingClientRect()];
+    const unhit = [...it.querySelectorAll("button, a")].filter((control) => { const { left, top, width, height } = control.getBoundingClientRect(); return [0.15, 0.85].some((part) => !control.contains(document.elementFromPoint(left + width / 2, top + part * height))); });
+    return [Math.max(0, it.scrollHeight - it.clientHeight), unhit.map((control) => control.textContent), box.top >= outer.top && box.bottom <= outer.bottom];
+})()`);
+
+/** A notice is seen whole with all that can be pressed in it, without being scrolled, also beside the time line. */
+async function noticesWhole(browser, address) {
+    let offers = 0;
+    // what is done here is offered when the page is opened again
+    await browser.open(`${address}?lang=en&door=work`);
+    await browser.write("; mine");
+    for (const code of ["en", "de"]) for (const behind of ["door=work#square-root", "lesson=rewriting", "story=2"]) {
+        await browser.open(`${address}?lang=${code}&${behind}`);
+        await settled(browser);
+        for (const [width, height] of [...SIZES, [1366, 768]]) {
+            await browser.size(width, height);
+            for (const [name, notice] of Object.entries(NOTICES)) {
+                await browser.value(`laboratoryOfPage().tell(${JSON.stringify(notice)})`);
+                await browser.reveal("#notice");
+                assert.deepEqual(await notWhole(browser), [0, [], true], `${code}, ${name} behind ${behind} at ${width} by ${height}`);
+            }
+            await browser.value("laboratoryOfPage().tell(null)");
+            // on a telephone the offer is a list of two lines that is scrolled, so that the clock of a lesson stays in the window
+            if (width <= 760 || await browser.value("!document.querySelector('#kept').checkVisibility()")) continue;
+            offers += 1;
+            assert.deepEqual(await notWhole(browser, "kept"), [0, [], true], `${code}, the offer behind ${behind} at ${width} by ${height}`);
+            assert.equal(await browser.value("document.querySelector('.pace')?.querySelector('.when').checkVisibility() !== false"), true);
+        }
+    }
+    assert.ok(offers > SIZES.length, `${offers} offers`);
+    await browser.size(1500, 1250);
+}
+
+/** Focuses a control and presses it; whether it has the focus then, and whether it is dead. */
+const pressedAt = (browser, selector) => browser.value(`(async () => {
+    const it = document.querySelector(${JSON.stringify(selector)});
+    it.focus();
+    it.click();
+    await laboratoryOfPage().settled();
+    return [document.activeElement === it, it.getAttribute("aria-disabled")];
+})()`);
+
+/** A control that has nothing more to do keeps the focus; where it goes away itself, the focus goes on. */
+async function focusStays(browser, address) {
+    await browser.open(`${address}?lang=en&game=faster`);
+    await browser.waitFor("document.querySelector('.faster').getAttribute('aria-busy') === 'false'");
+    await browser.value("document.querySelector('.faster .grip').dispatchEvent(new KeyboardEvent('keydown', { key: 'ArrowRight', bubbles: true }))");
+    assert.deepEqual(await pressedAt(browser, "#faster-back"), [true, "true"]);
+    await browser.open(`${address}?lang=en&story=2&caption=2`);
+    await browser.waitFor("document.querySelector('.caption-at').textContent === '2 of 5' && document.querySelector('.caption').getAttribute('aria-busy') === 'false'");
+    assert.deepEqual(await pressedAt(browser, "#caption-back"), [true, "true"]);
+    await browser.open(`${address}?lang=en&door=work#drum/household`);
+    await press(browser, "#go-on");
+    await browser.value("laboratoryOfPage().showAt('0128')");
+    await press(browser, "tr[data-address='0128'] button");
+    await browser.waitFor("document.querySelector('.drum .grip') !== null");
+    await browser.reveal("#carried-back");
+    await browser.value("document.querySelector('.drum .grip').dispatchEvent(new KeyboardEvent('keydown', { key: 'ArrowRight', bubbles: true }))");
+    assert.deepEqual(await pressedAt(browser, "#carried-back"), [true, "true"]);
+    await browser.value("laboratoryOfPage().say('break 0100')");
+    await browser.reveal(".rules");
+    await browser.value("(() => { const it = document.querySelector('.rules button'); it.focus(); it.click(); return laboratoryOfPage().settled(); })()");
+    assert.deepEqual(await browser.value("[laboratoryOfPage().rules, document.activeElement.closest('.listing form') !== null]"), [[], true]);
+}
+
 /** A teacher's: each lesson has a link to its sheet, which is what a printer gets; a task is set up, and run, by buttons that say so; and so is a source in Work. */
 async function teachers(browser, address) {
     for (const [code, title] of [["en", "The program that rewrites itself"], ["de", "Das Programm, das sich umschreibt"]]) {
@@ -200,7 +275,7 @@ async function teachers(browser, address) {
     await browser.waitFor("laboratoryOfPage().printed.text === 'h' && laboratoryOfPage().panel.status === 'halted stop'");
 }
 
-const VISITS = { nothingClipped, oneStory, hallBeside, runStays, ownQuestions, names, enterShows, lessonTells, forcedColours, small, teachers };
+const VISITS = { noticesWhole, focusStays, nothingClipped, oneStory, hallBeside, runStays, ownQuestions, names, enterShows, lessonTells, forcedColours, small, teachers };
 
 /** The visits of the page at an address, by their names. */
 export const visitsOfPoints = (address) => Object.fromEntries(Object.entries(VISITS).map(([name, visit]) => [name, (browser) => visit(browser, address)]));

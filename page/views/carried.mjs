@@ -3,7 +3,7 @@
 import { SECTORS, inTwoDigits, sectorOf } from "../addresses.mjs";
 import { Placing } from "../placing.mjs";
 import { counted } from "../words.mjs";
-import { button, h, tell } from "./dom.mjs";
+import { guarded, h, showLive, tell } from "./dom.mjs";
 import { behind } from "./doors.mjs";
 import { makeGrips } from "./hand.mjs";
 
@@ -100,8 +100,8 @@ export function makeCarried(laboratory, texts, drum, turning, drafts, write) {
     };
     const grips = makeGrips(drum.box, hands);
     const [told, said] = [h("p", { class: "carried-told" }), h("p", { class: "unseen", role: "status" })];
-    const writes = behind("work", button(text("writeMoved"), () => write(words.placing, words.costs.orders, nameOf), { id: "write-moved" }));
-    const back = button(text("asItWas"), () => { words.reset(); showCarried(); }, { id: "carried-back" });
+    const writes = behind("work", guarded(text("writeMoved"), { id: "write-moved" }, () => write(words.placing, words.costs.orders, nameOf)));
+    const back = guarded(text("asItWas"), { id: "carried-back" }, () => { words.reset(); showCarried(); });
     const node = h("div", { class: "carried" }, told, said, h("div", { class: "line" }, back, writes));
     const frame = () => { if (words.placing !== null && drum.box.offsetWidth > 0) grips.show(turning.clock % SECTORS, drum.box.offsetWidth / 800, (address) => words.isBest(address), ...BEYOND); };
     const showCarried = () => {
@@ -111,7 +111,9 @@ export function makeCarried(laboratory, texts, drum, turning, drafts, write) {
         drum.ring.light("origin", moved.map(sectorOf));
         if (placing === null) tell(told, text("carriedStill", { words: words.addresses.map(nameOf).join(", ") }));
         else tell(told, moved.length > 0 ? toldOf(placing, nameOf, texts) : costs.kind === "free" ? text("carriedHint") : "");
-        [back.disabled, writes.disabled, node.hidden] = [kept === null, moved.length === 0, placing === null && kept === null];
+        showLive(back, kept !== null);
+        showLive(writes, moved.length > 0);
+        node.hidden = placing === null && kept === null;
         frame();
     };
     const show = async () => {

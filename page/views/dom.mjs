@@ -63,8 +63,8 @@ export function kept(make) {
     };
 }
 
-/** A control that does something only while it is live; while it is dead, a press says why. */
-export const guarded = (text, attributes, deed, whenDead) => {
+/** A control that does something only while it is live; while it is dead, a press says why, or does nothing. */
+export const guarded = (text, attributes, deed, whenDead = () => {}) => {
     const control = button(text, () => (control.getAttribute("aria-disabled") === "true" ? whenDead() : deed()), attributes);
     return control;
 };

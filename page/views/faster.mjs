@@ -4,7 +4,7 @@ import { SECTORS, inTwoDigits, positionOf, sectorAt, sectorOf } from "../address
 import { GAMES, Game } from "../faster.mjs";
 import { timesOf } from "../placing.mjs";
 import { counted } from "../words.mjs";
-import { button, h, refill, s, tell } from "./dom.mjs";
+import { button, guarded, h, refill, s, showLive, tell } from "./dom.mjs";
 import { PEN, makeKey, makePicture, passed } from "./drum.mjs";
 import { makeGrips } from "./hand.mjs";
 import { wordOf } from "./says.mjs";
@@ -194,7 +194,7 @@ function play(game, isStill, frame, ended) {
 
 /** The buttons below. Where the time is over the last one shows the best placing; where that is reached or shown, it leads to another program. */
 function makeFoot(game, { text }, timer, deeds) {
-    const [why, back, watch] = ["why", "back", "watch"].map((name) => button("", deeds[name], { id: `faster-${name}` }));
+    const [why, back, watch] = ["why", "back", "watch"].map((name) => guarded("", { id: `faster-${name}` }, deeds[name]));
     const [best, another] = [button(text("showBest"), () => { deeds.showBest(); back.focus(); }, { id: "faster-best" }), button(text("anotherProgram"), deeds.another, { id: "faster-another", class: "primary" })];
     const last = h("div", { class: "last" });
     const show = () => {
@@ -202,7 +202,7 @@ function makeFoot(game, { text }, timer, deeds) {
         tell(why, text("showWhy"));
         why.setAttribute("aria-pressed", String(isWhy));
         tell(back, text(isShown ? "myPlacing" : "asItWas"));
-        back.disabled = !isShown && placing.moved.length === 0;
+        showLive(back, isShown || placing.moved.length > 0);
         tell(watch, text(watched === null ? "watchRound" : "halt"));
         refill(last, isShown || isWon ? another : timer.isOver() ? best : timer.node);
     };

@@ -74,6 +74,7 @@ export function makeGrips(box, hands) {
     const put = (words) => {
         grips = new Map(words.map((word) => [word.address, (word.kind ?? "free") === "free" ? makeGrip(word, hands, () => [box, position]) : makeFixedPin(word, hands)]));
         layer.replaceChildren(...grips.values());
+        lines.replaceChildren();
     };
     const show = (now, scale, isBest, beyond, below = Infinity) => {
         position = now;

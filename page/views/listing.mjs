@@ -34,7 +34,7 @@ function row({ address, digits, order, writer, isNext, isNew, labels, comment },
 /** What a rule does, as `break 0100` or `watch 0009 loop` names it. */
 export function ruleText(rule, { table }) {
     const [kind, ...place] = rule.split(" ");
-    return `${table.ruleKind[kind]} ${place.join(" ")}`;
+    return table.ruleKind[kind].replace("{place}", () => place.join(" "));
 }
 
 /** Where an arrow beside the rows begins and ends, from an order that was told to what it wrote; null where one of them is not shown. */
@@ -95,6 +95,11 @@ export function makeListing(laboratory, texts, { held, isFast, hasCosts }, draft
     const form = h("form", { class: "line", onsubmit: (event) => { event.preventDefault(); showIt(); } }, h("label", {}, `${text("address")} `, place), " ",
         button(text("show"), showIt), " ", button(text("startHere"), () => laboratory.command(`go ${place.value}`)), " ",
         button(text("breakAt"), () => laboratory.command(`break ${place.value}`)), " ", button(text("watchAt"), () => laboratory.command(`watch ${place.value}`)));
+    const takeOut = (number) => {
+        // the row goes with its button: where it is the only one, the focus goes on to the field
+        if (laboratory.rules.length === 1) place.focus();
+        laboratory.command(`drop ${number}`);
+    };
     const rules = h("ul", { class: "rules", "aria-label": text("rules") });
     const rowOf = kept((shown) => row(shown, texts, ask));
     const arrowOf = kept(arrow);
@@ -122,7 +127,7 @@ export function makeListing(laboratory, texts, { held, isFast, hasCosts }, draft
         showWords();
         if (laboratory.words !== askedOf) answer.textContent = "";
         refill(rules, ...laboratory.rules.map((rule, number) => {
-            return h("li", {}, `${number}: ${ruleText(rule, texts)} `, button("×", () => laboratory.command(`drop ${number}`), { "aria-label": text("dropRule", { number }), "data-name": number }));
+            return h("li", {}, `${number}: ${ruleText(rule, texts)} `, button("×", () => takeOut(number), { "aria-label": text("dropRule", { number }), "data-name": number }));
         }));
     };
     return { node: part("listing", text("words"), rewritten, list, answer, form, rules), show };

@@ -58,6 +58,9 @@ function buttonsOf({ kind, number, lines, work }, laboratory, { text }, isKiosk,
     return [button(text("save"), deeds.save), passing(text("new"), deeds.anew, run)];
 }
 
+/** The controls after a text, all in one line. */
+export const waysOut = (...controls) => (controls.length === 0 ? [] : [" ", h("span", { class: "ways-out" }, ...controls.flatMap((control) => [control, " "]).slice(0, -1))]);
+
 /** Shows the notice; it is made anew only where it is another one, so that the focus stays. */
 function makeNotice(laboratory, texts, isKiosk, deeds) {
     const place = document.getElementById("notice");
@@ -69,7 +72,7 @@ function makeNotice(laboratory, texts, isKiosk, deeds) {
         place.hidden = notice === null;
         if (notice === null) return place.replaceChildren();
         const buttons = buttonsOf(notice, laboratory, texts, isKiosk, deeds);
-        place.replaceChildren(noticeText(notice, laboratory, texts, isKiosk), ...buttons.flatMap((control) => [" ", control]));
+        place.replaceChildren(noticeText(notice, laboratory, texts, isKiosk), ...waysOut(...buttons));
     };
 }
 
@@ -77,7 +80,7 @@ function makeOpenSource(laboratory, { text }) {
     const place = document.getElementById("open-source");
     const told = h("span");
     const end = passing(text("endSource"), () => laboratory.say("."), () => document.querySelector(".lines input") ?? document.getElementById("kiosk-1"));
-    place.replaceChildren(told, " ", end);
+    place.replaceChildren(told, ...waysOut(end));
     return () => {
         const { openSource } = laboratory;
         place.hidden = openSource === null;
@@ -95,7 +98,7 @@ function makeLost(laboratory, { text }, linkTo) {
         place.hidden = lost.length === 0;
         if (place.hidden) return place.replaceChildren();
         const away = passing(text("putAway"), () => laboratory.putAway(), () => document.querySelector("#save, #kiosk-1"));
-        return place.replaceChildren(text("lost"), ...lost.flatMap((lines) => [" ", linkTo(lines)]), " ", away);
+        return place.replaceChildren(text("lost"), ...lost.flatMap((lines) => [" ", linkTo(lines)]), ...waysOut(away));
     };
 }
 

@@ -24,6 +24,6 @@ export function makeProfile(laboratory, { text, table, code }, drafts) {
             ...profile.parts.map((line, at) => bar(line, most(profile.parts), table.parts[line.name] ?? line.name, PHASES[at], code)),
             h("h3", {}, text("dearest")), ...profile.places.map((line) => bar(line, most(profile.places), line.name, "place", code)));
     };
-    const start = button(text("makeProfile"), () => laboratory.command(`profile-data ${Math.max(1, Math.floor(Number(limit.value)))}`));
+    const start = button(text("makeProfile"), () => laboratory.addUp(Math.max(1, Math.floor(Number(limit.value)))));
     return { node: part("profile", text("profile"), h("div", { class: "line" }, h("label", {}, text("profileOrders"), " ", limit), start), place), show };
 }

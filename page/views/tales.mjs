@@ -1,5 +1,5 @@
 // Guided stories: captions one after another, each with the orders that it plays in slow motion.
-import { button, h, part, tell } from "./dom.mjs";
+import { button, guarded, h, part, showLive, tell } from "./dom.mjs";
 
 /** The stories: the example that each opens, how many of its orders are done before, and how many each caption plays; the last one may let it run. */
 export const TALES = [
@@ -17,7 +17,7 @@ export function makeTales(laboratory, { text, table }, drive, { open, viewer, to
     let round = 0;
     const caption = h("p", { class: "caption", "aria-live": "polite", "aria-busy": "false" });
     const next = () => (viewer.at + 1 < viewer.tale.plays.length ? goTo(viewer.at + 1) : begin(TALES[(TALES.indexOf(viewer.tale) + 1) % TALES.length]));
-    const [place, backOne, nextOne] = [h("span", { class: "caption-at" }), button(text("captionBack"), () => goTo(viewer.at - 1)), button(text("captionNext"), next, { id: "caption-next" })];
+    const [place, backOne, nextOne] = [h("span", { class: "caption-at" }), guarded(text("captionBack"), { id: "caption-back" }, () => goTo(viewer.at - 1)), button(text("captionNext"), next, { id: "caption-next" })];
     const choices = TALES.map((it) => button(table.tales[it.name].title, () => begin(it), { "data-tale": it.name }));
     const orders = (count) => viewer.tale.plays.slice(0, count).reduce((sum, plays) => sum + plays, viewer.first);
     /** Goes to a place, and waits for what leads there. Whether nothing else was asked for meanwhile. */
@@ -66,7 +66,7 @@ export function makeTales(laboratory, { text, table }, drive, { open, viewer, to
         for (const control of [place, backOne, nextOne]) control.hidden = tale === null;
         if (tale === null) return;
         tell(place, text("captionAt", { at: at + 1, of: tale.plays.length }));
-        backOne.disabled = at === 0;
+        showLive(backOne, at > 0);
         tell(nextOne, text(at + 1 < tale.plays.length ? "captionNext" : "nextTale"));
     };
     /** Opens the story and the caption that an address names, each by its number. */

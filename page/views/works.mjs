@@ -2,6 +2,7 @@
 import { linesIn } from "../lines.mjs";
 import { counted } from "../words.mjs";
 import { button, h } from "./dom.mjs";
+import { waysOut } from "./notice.mjs";
 
 /** What a work is called: the lesson and its step, the task, the example or the file that is open, or the first line of its source. */
 export function titleOf(laboratory, pupil, sources, { text, table }) {
@@ -29,6 +30,6 @@ export function makeOffer(work, { text }, { open, forget }) {
         document.querySelector("#open, .doors a")?.focus();
         deed();
     };
-    place.replaceChildren(text("keptSession"), " ", button(text("openAgain"), end(() => open(work))), " ", button(text("forget"), end(() => forget(work.id))));
+    place.replaceChildren(text("keptSession"), ...waysOut(button(text("openAgain"), end(() => open(work))), button(text("forget"), end(() => forget(work.id)))));
     place.hidden = false;
 }

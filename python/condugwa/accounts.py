@@ -2,7 +2,7 @@
 
 import dataclasses
 
-from condugwa.records import number_of, place_of, records_of, value_of
+from condugwa.records import Record, number_of, place_of, records_of, value_of
 from condugwa.tables import html_table
 
 _IN_REGISTER = "register"
@@ -16,7 +16,7 @@ class Word:
     """Its eight digits of base 16."""
 
     order: "str | None"
-    """The order that it is, or None where it is none."""
+    """The order that it represents, or None."""
 
     number: int
     """Half of its bits, with their sign."""
@@ -38,13 +38,13 @@ class Stored:
 
 @dataclasses.dataclass(frozen=True)
 class PutThere:
-    """What put an order where it stands, since the steps that are kept begin."""
+    """What put an order where it is, as far back as steps are kept."""
 
     order: "str | None"
-    """The order that did, such as `y 0009`, with a label behind its address where there is one; None where it was put by hand."""
+    """The order that did, such as `y 0009`, with the label of its address if there is one; None if it was put by hand."""
 
     at: "str | None"
-    """Where that order stood, as `ttss`; None where it stood in the instruction register, and for a put by hand."""
+    """Where that order was, as `ttss`; None if it was in the instruction register, and for a put by hand."""
 
     clock: int
     """The word times that had passed then."""
@@ -53,7 +53,7 @@ class PutThere:
     """How many orders ago that was; None for a put by hand."""
 
     lost: str
-    """What stood there before: an order, or a word's digits and its number."""
+    """What was there before: an order, or a word's digits and its number."""
 
 
 @dataclasses.dataclass(frozen=True)
@@ -64,13 +64,13 @@ class Account:
     """The word times that had passed when it began."""
 
     at: "str | None"
-    """Where the order stood, as `ttss`; None where it stood at no address."""
+    """Where the order was, as `ttss`; None if it was not at an address."""
 
     label: "str | None"
     """The label of that place."""
 
     order: str
-    """The order, such as `b 0050`, with a label behind its address where there is one; the status where there is no order."""
+    """The order, such as `b 0050`, with the label of its address if there is one; the status if there is no order."""
 
     find: int
     """The word times until the order was read."""
@@ -88,13 +88,13 @@ class Account:
     """The accumulator before it, in eight digits of base 16."""
 
     after: str
-    """The accumulator behind it."""
+    """The accumulator after it."""
 
     in_register: bool = False
-    """Whether the order stood in the instruction register."""
+    """Whether the order was in the instruction register."""
 
     put_there: "PutThere | None" = None
-    """What put the order there; None where no kept step has changed it."""
+    """What put the order there; None if no kept step has changed it."""
 
     stored: "Stored | None" = None
     printed: "int | None" = None
@@ -126,22 +126,22 @@ class Account:
         )
 
 
-def _word(record: "dict[str, str]", name: str) -> Word:
+def _word(record: Record, name: str) -> Word:
     return Word(value_of(record, name), record.get(f"{name}-order"), number_of(record, f"{name}-number"))
 
 
-def _stored(record: "dict[str, str]") -> "Stored | None":
+def _stored(record: Record) -> "Stored | None":
     if "stored" not in record:
         return None
     return Stored(*place_of(record["stored"]), _word(record, "found"), _word(record, "left"))
 
 
-def _standing(record: "dict[str, str]", key: str) -> "tuple[str | None, str | None]":
-    """Where an order stood, with the label there; nowhere where it stood in the instruction register or there is none."""
+def _standing(record: Record, key: str) -> "tuple[str | None, str | None]":
+    """Where an order was, with the label there; nothing if it was in the instruction register or there is none."""
     return place_of(record[key]) if record.get(key, _IN_REGISTER) != _IN_REGISTER else (None, None)
 
 
-def _put_there(record: "dict[str, str]") -> "PutThere | None":
+def _put_there(record: Record) -> "PutThere | None":
     if "put-by" not in record:
         return None
     clock, lost = number_of(record, "put-clock"), value_of(record, "put-over")
@@ -150,7 +150,7 @@ def _put_there(record: "dict[str, str]") -> "PutThere | None":
     return PutThere(record["put-by"], _standing(record, "put-at")[0], clock, number_of(record, "put-ago"), lost)
 
 
-def _account(record: "dict[str, str]") -> Account:
+def _account(record: Record) -> Account:
     at, label = _standing(record, "at")
     return Account(
         clock=number_of(record, "clock"),
@@ -166,11 +166,11 @@ def _account(record: "dict[str, str]") -> Account:
         in_register=record.get("at") == _IN_REGISTER,
         put_there=_put_there(record),
         stored=_stored(record),
-        printed=int(record["printed"]) if "printed" in record else None,
-        passed=int(record.get("passed", "0")),
+        printed=record.get("printed"),
+        passed=record.get("passed", 0),
     )
 
 
 def accounts_of(lines: "list[str]") -> "list[Account]":
     """The accounts that lines tell. Raises ValueError where they tell none, or one that lacks something."""
-    return [_account(record) for record in records_of(lines, "clock")]
+    return [_account(record) for record in records_of(lines)]

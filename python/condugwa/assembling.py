@@ -16,7 +16,7 @@ class Listing:
     """The address where its program starts, as `ttss`, if its end line names one."""
 
     text: str
-    """The listing: each line of the source behind its place and its word."""
+    """The listing: each line of the source after its place and its word."""
 
 
 @dataclasses.dataclass(frozen=True)

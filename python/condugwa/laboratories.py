@@ -75,7 +75,7 @@ class Laboratory:
         return html.escape(repr(self)) if self._session.is_closed or self._in_source else self.panel()._repr_html_()
 
     def answer(self, line: "str | bytes") -> str:
-        """The reply to a line, with a line feed behind each of its lines; the empty text where the line has none.
+        """The reply to a line, with a line feed after each of its lines; an empty text if the line has none.
 
         Raises the refusal that the reply tells, ValueError where the line has a line feed or the laboratory is closed, and OutOfMemoryError.
         """
@@ -93,12 +93,12 @@ class Laboratory:
         return scripts.decoded(reply)
 
     def answers(self, lines: str) -> str:
-        """The replies to several lines, one behind the other. The first refusal is raised, and the lines behind it are not asked."""
+        """The replies to several lines, one after another. The first refusal is raised, and the lines after it are not sent."""
         return "".join(self.answer(line) for line in lines.removesuffix("\n").split("\n"))
 
     def panel(self) -> panels.Panel:
         """What the panel shows."""
-        return panels.Panel.of_data(self._asked("panel-data"))
+        return panels.Panel.of_data(self._asked("json panel-data"))
 
     def words(self, address: str, count: int = 1) -> "dict[str, str]":
         """So many words from an address on, 64 at most, each by its address."""
@@ -110,23 +110,23 @@ class Laboratory:
 
     def trace(self, limit: int) -> "list[accounts.Account]":
         """Performs orders as `run` does, and tells the account of each."""
-        return accounts.accounts_of(self._told("trace-data", limit))
+        return accounts.accounts_of(self._reported("trace-data", limit))
 
     def profile(self, limit: int) -> profiles.Profile:
         """Performs orders as `run` does, and tells where their word times went."""
-        return profiles.profile_of(self._told("profile-data", limit))
+        return profiles.profile_of(self._reported("profile-data", limit))
 
     def optimum(self, limit: int) -> optima.Optimum:
         """Performs orders as `run` does, and tells which words would have cost less at other sectors."""
-        return optima.optimum_of(self._told("optimum-data", limit))
+        return optima.optimum_of(self._reported("optimum-data", limit))
 
     def optimum_of(self, limit: int, address: str) -> optima.WordOptimum:
         """Performs orders as `run` does, and tells what they would have taken with one word at each sector."""
-        return optima.word_optimum_of(self._told("optimum-data", limit, address))
+        return optima.word_optimum_of(self._reported("optimum-data", limit, address))
 
     def drum(self, limit: int) -> "list[str]":
         """Performs orders as `run` does, and draws them: a row a turn of the drum, a sign a word time."""
-        return self._told("drum", limit)
+        return self._told("drum", str(limit))
 
     def paper(self) -> str:
         """What was printed, as the rows of the typewriter's paper, with a line feed between two of them."""
@@ -138,11 +138,15 @@ class Laboratory:
             raise ValueError("a source is open, and takes each line up to a point alone")
         return self.answer(command)
 
-    def _told(self, command: str, limit: int, *operands: str) -> "list[str]":
-        """What stands in front of the reply of the run. Where the clock's end has broken the run off, that refusal is raised."""
-        lines = self._asked(" ".join([command, str(limit), *operands])).removesuffix("\n").split("\n")
-        while len(lines) > 1 and lines[-1].startswith((" ", "state ")):
-            lines.pop()  # what the monitor says behind the reply
+    def _reported(self, command: str, limit: int, *operands: str) -> "list[str]":
+        """The lines with the records of a run, without that of its end."""
+        return self._told("json", command, str(limit), *operands)
+
+    def _told(self, *words: str) -> "list[str]":
+        """What comes before the reply of the run. If the clock's end has stopped the run, that refusal is raised."""
+        lines = self._asked(" ".join(words)).removesuffix("\n").split("\n")
+        while len(lines) > 1 and lines[-1].startswith(" "):
+            lines.pop()  # what the monitor says after the reply
         *told, end = lines
         if end.startswith("?"):
             raise refusals.refusal_in(end)
@@ -153,7 +157,7 @@ class Laboratory:
         return int(self._asked(f"back {orders}").split()[1])
 
     def transcript(self) -> str:
-        """The script that leads where the laboratory stands."""
+        """The script that leads to the laboratory's state."""
         return self._asked("transcript")
 
     def close(self) -> str:

@@ -2,7 +2,7 @@
 
 import dataclasses
 
-from condugwa.records import number_of, records_of, value_of
+from condugwa.records import Record, number_of, records_of, value_of
 
 _FREE, _PERFORMED, _NAMED_BY_CHANGED = "free", "performed", "changed"
 _UNNAMED = "unnamed"
@@ -18,7 +18,7 @@ class Gain:
 
     label: "str | None"
     sector: int
-    """Where it stands."""
+    """Where it is."""
 
     best: int
     """Where it would have cost least."""
@@ -45,7 +45,7 @@ class Optimum:
     """Those that were performed as orders: with them elsewhere it is another program."""
 
     named_by_changed: "tuple[Gain, ...]"
-    """Those that an order named which was changed, or which stood in the instruction register alone."""
+    """Those that were named by a changed order, or by one that was only in the instruction register."""
 
 
 @dataclasses.dataclass(frozen=True)
@@ -66,7 +66,7 @@ class WordOptimum:
     """What it saves there, and 0 where it may not be moved."""
 
 
-def _gain(record: "dict[str, str]") -> Gain:
+def _gain(record: Record) -> Gain:
     return Gain(
         address=value_of(record, "word"),
         label=record.get("label"),
@@ -78,7 +78,7 @@ def _gain(record: "dict[str, str]") -> Gain:
 
 def optimum_of(lines: "list[str]") -> Optimum:
     """What lines tell of the words of a run. Raises ValueError where they tell none of it."""
-    records = records_of(lines, "orders", "word")
+    records = records_of(lines)
     if not records:
         raise ValueError("no optimum: no line")
     whole, *words = records
@@ -100,12 +100,12 @@ def optimum_of(lines: "list[str]") -> Optimum:
 
 def word_optimum_of(lines: "list[str]") -> WordOptimum:
     """What lines tell of one word. Raises ValueError where they tell none of it."""
-    records = records_of(lines, "orders")
+    records = records_of(lines)
     if len(records) != 1:
         raise ValueError(f"no optimum of a word: {len(records)} records")
     (record,) = records
     freedom = value_of(record, "freedom")
-    numbers = tuple(int(number) for number in value_of(record, "numbers").split(" "))
+    numbers = tuple(int(number) for number in value_of(record, "numbers"))
     if len(numbers) != _SECTORS:
         raise ValueError(f"no optimum of a word: {len(numbers)} sectors")
     return WordOptimum(

@@ -2,7 +2,7 @@
 
 import dataclasses
 
-from condugwa.records import number_of, records_of, value_of
+from condugwa.records import Record, number_of, records_of, value_of
 from condugwa.tables import html_table
 
 _KEYS = ("counter", "accumulator", "register", "status", "mode", "switches", "reader", "tape", "clock")
@@ -53,7 +53,7 @@ class Panel:
     @classmethod
     def of(cls, reply: str) -> "Panel":
         """The panel that a reply of `panel` tells. Raises ValueError where it is none."""
-        record: "dict[str, str]" = {}
+        record: Record = {}
         key = ""
         for word in reply.rstrip("\n").split(" "):
             if word in _KEYS and word not in record:
@@ -65,14 +65,14 @@ class Panel:
 
     @classmethod
     def of_data(cls, reply: str) -> "Panel":
-        """The panel that a reply of `panel-data` tells. Raises ValueError where it is none."""
-        records = records_of(reply.splitlines(), "counter")
+        """The panel that a reply of `json panel-data` tells. Raises ValueError where it is none."""
+        records = records_of(reply.splitlines())
         if len(records) != 1:
             raise ValueError(f"no panel: {reply!r}")
         return cls._of(records[0], "".join(value_of(records[0], switch)[0] for switch in _SWITCHES))
 
     @classmethod
-    def _of(cls, record: "dict[str, str]", switches: str) -> "Panel":
+    def _of(cls, record: Record, switches: str) -> "Panel":
         return cls(
             counter=value_of(record, "counter"),
             accumulator=value_of(record, "accumulator"),

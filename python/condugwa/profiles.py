@@ -2,12 +2,12 @@
 
 import dataclasses
 
-from condugwa.records import number_of, place_of, records_of, value_of
+from condugwa.records import Record, number_of, place_of, records_of, value_of
 
 
 @dataclasses.dataclass(frozen=True)
 class Place:
-    """A place on the drum, and the word times of the orders that stood there."""
+    """A place on the drum, and the word times of the orders there."""
 
     address: str
     """As `ttss`."""
@@ -37,19 +37,19 @@ class Profile:
     """Acting."""
 
     elsewhere: int
-    """Those of orders that stood at no address."""
+    """Those of orders that were not at an address."""
 
     places: "tuple[Place, ...]"
     """The places with most word times, at most ten, the dearest first."""
 
 
-def _place(record: "dict[str, str]") -> Place:
+def _place(record: Record) -> Place:
     return Place(*place_of(value_of(record, "place")), number_of(record, "times"))
 
 
 def profile_of(lines: "list[str]") -> Profile:
     """The profile that lines tell. Raises ValueError where they tell none."""
-    records = records_of(lines, "orders", "place")
+    records = records_of(lines)
     if not records:
         raise ValueError("no profile: no line")
     whole, *places = records

@@ -1,41 +1,36 @@
-"""Replies for programs: lines of a key, a blank and a value."""
+"""Replies for programs: an object of JSON for each record, on a line of its own."""
 
 import json
+import typing
+
+Record = typing.Dict[str, typing.Any]
+"""The fields of a record that have a value, by their keys."""
 
 
-def _value_in(written: str) -> str:
-    """A value as it was before it was written in a line.
+def records_of(lines: "typing.Iterable[str]") -> "list[Record]":
+    """The records that lines tell. A field without a value is left out.
 
-    There quotation marks and backslashes have a backslash before them, and other bytes are a backslash, `u` and four digits.
+    Raises ValueError at a line that is not an object.
     """
-    return str(json.loads(f'"{written}"')) if "\\" in written else written
+    return [_record(line) for line in lines]
 
 
-def records_of(lines: "list[str]", *firsts: str) -> "list[dict[str, str]]":
-    """The records that lines tell, each a value by its key; one begins at each line whose key is among `firsts`.
-
-    Raises ValueError at a line without a value, at a key that its record has already, and at lines in front of the first record.
-    """
-    records: "list[dict[str, str]]" = []
-    for line in lines:
-        key, blank, value = line.partition(" ")
-        if key in firsts:
-            records.append({})
-        if not blank or not records or key in records[-1]:
-            raise ValueError(f"no line of a key and a value here: {line!r}")
-        records[-1][key] = _value_in(value)
-    return records
+def _record(line: str) -> Record:
+    fields = json.loads(line)
+    if not isinstance(fields, dict):
+        raise ValueError(f"no record here: {line!r}")
+    return {key: value for key, value in fields.items() if value is not None}
 
 
-def value_of(record: "dict[str, str]", key: str) -> str:
+def value_of(record: Record, key: str) -> typing.Any:
     """The value of a key. Raises ValueError where the record has none."""
     if key not in record:
         raise ValueError(f"no {key} in {record!r}")
     return record[key]
 
 
-def number_of(record: "dict[str, str]", key: str) -> int:
-    """The same as a number."""
+def number_of(record: Record, key: str) -> int:
+    """The same as a number: a large one is a string."""
     return int(value_of(record, key))
 
 

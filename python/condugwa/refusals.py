@@ -5,7 +5,7 @@ class RefusalError(Exception):
     """A reply that begins with a question mark.
 
     `reply` is its line without the line feed. `detail` is the number that TooFarError, NoHitError and BadSignError report, or None. The reason
-    that a laboratory gives after them stands in the reply alone.
+    that a laboratory gives after them is only in the reply.
     """
 
     number = 0

@@ -20,7 +20,7 @@ class Replies:
     """What a script was answered."""
 
     text: str
-    """The replies, one behind the other. Each ends in a line feed."""
+    """The replies, one after another. Each ends in a line feed."""
 
     questions: int
     """How many replies begin with a question mark."""

@@ -1,22 +1,22 @@
-"""Accounts, panels and profiles are read from the replies of examples/for-programs.told, which the whole check compares with the program's."""
+"""Accounts, panels and profiles are read from the replies of examples/for-programs-json.told, which the whole check compares with the program's."""
 
+import json
 import pathlib
 
 import pytest
 
 from condugwa import accounts, panels, profiles, records
 
-TOLD = (pathlib.Path(__file__).resolve().parents[2] / "examples" / "for-programs.told").read_text().split("\n")
+TOLD = (pathlib.Path(__file__).resolve().parents[2] / "examples" / "for-programs-json.told").read_text().split("\n")
 
 
-def reply_from(first: str, following: str) -> "list[str]":
-    """The lines of the session's reply that begins so, up to the line that comes after them."""
-    begin = TOLD.index(first)
-    return TOLD[begin : TOLD.index(following, begin)]
+def replies_with(key: str) -> "list[str]":
+    """The records of the session's replies that begin with a key."""
+    return [line for line in TOLD if line.startswith(f'{{"{key}":')]
 
 
 def test_accounts_are_read():
-    first, second, third = accounts.accounts_of(reply_from("clock 0", "ran 3 rest"))
+    first, second, third = accounts.accounts_of(replies_with("clock"))
     assert (first.clock, first.at, first.label, first.order) == (0, "0000", None, "b 0003")
     assert (first.find, first.take, first.seek, first.act, first.cost) == (64, 1, 26, 1, 92)
     assert (first.before, first.after, first.stored) == ("00000000", "00000008", None)
@@ -27,27 +27,28 @@ def test_accounts_are_read():
     assert not any(account.in_register for account in (first, second, third))
 
 
-ORDER = ["clock 228868", "find 31", "take 1", "seek 42", "act 1", "before 0000000q", "after 00000054"]
+ORDER = {"clock": 228868, "find": 31, "take": 1, "seek": 42, "act": 1, "before": "0000000q", "after": "00000054"}
 
 
-def account_with(*lines: str) -> accounts.Account:
-    (account,) = accounts.accounts_of([*ORDER, *lines])
+def account_with(**fields: object) -> accounts.Account:
+    named = {key.replace("_", "-"): value for key, value in fields.items()}
+    (account,) = accounts.accounts_of([json.dumps({**ORDER, "stored": None, **named})])
     return account
 
 
 def test_labels_and_details_are_read():
     account = account_with(
-        "at 1011 get1",
-        "order b 1130 table",
-        "stored 1131 table+1",
-        "found 00000006",
-        "found-order z 0001",
-        "found-number 3",
-        "left 80000000",
-        "left-number -1073741824",
-        "printed 3",
-        "sign  ",
-        "passed 4",
+        at="1011 get1",
+        order="b 1130 table",
+        stored="1131 table+1",
+        found="00000006",
+        found_order="z 0001",
+        found_number=3,
+        left="80000000",
+        left_number=-1073741824,
+        printed=3,
+        sign=" ",
+        passed=4,
     )
     assert (account.at, account.label, account.order, account.cost) == ("1011", "get1", "b 1130 table", 75)
     assert (account.in_register, account.printed, account.passed) == (False, 3, 4)
@@ -56,82 +57,72 @@ def test_labels_and_details_are_read():
 
 
 @pytest.mark.parametrize(
-    ("lines", "put_there"),
+    ("fields", "put_there"),
     [
-        (["put-by y 0001", "put-at 0000", "put-clock 0", "put-ago 1", "put-over u 0005"], ("y 0001", "0000", 0, 1, "u 0005")),
+        ({"put_by": "y 0001", "put_at": "0000", "put_clock": 0, "put_ago": 1, "put_over": "u 0005"}, ("y 0001", "0000", 0, 1, "u 0005")),
         (
-            ["put-by r 0017 exit", "put-at 0064 call", "put-clock 90", "put-ago 12", "put-over z 0000"],
+            {"put_by": "r 0017 exit", "put_at": "0064 call", "put_clock": 90, "put_ago": 12, "put_over": "z 0000"},
             ("r 0017 exit", "0064", 90, 12, "z 0000"),
         ),
         (
-            ["put-by h 0136", "put-at register", "put-clock 69", "put-ago 2", "put-over 00000008 = 4"],
+            {"put_by": "h 0136", "put_at": "register", "put_clock": 69, "put_ago": 2, "put_over": "00000008 = 4"},
             ("h 0136", None, 69, 2, "00000008 = 4"),
         ),
-        (["put-by hand", "put-clock 5", "put-over z 0000"], (None, None, 5, None, "z 0000")),
+        ({"put_by": "hand", "put_clock": 5, "put_over": "z 0000"}, (None, None, 5, None, "z 0000")),
     ],
 )
-def test_what_put_an_order_there_is_read(lines, put_there):
-    account = account_with("at 0001", "order u 0000", *lines)
+def test_what_put_an_order_there_is_read(fields, put_there):
+    account = account_with(at="0001", order="u 0000", **fields)
     assert account.put_there == accounts.PutThere(*put_there)
 
 
 def test_what_stood_at_no_address_is_read():
-    reading = account_with("status reading")
+    reading = account_with(status="reading")
     assert (reading.at, reading.order, reading.in_register) == (None, "reading", False)
-    executing = account_with("at register", "order z 0000")
+    executing = account_with(at="register", order="z 0000")
     assert (executing.at, executing.label, executing.in_register) == (None, None, True)
 
 
 def test_a_key_that_is_not_known_is_passed_over():
-    assert account_with("order z 0000", "later 5") == account_with("order z 0000")
+    assert account_with(order="z 0000", later=5) == account_with(order="z 0000")
 
 
-@pytest.mark.parametrize("lines", [["order z 0000"], ["clock 0"], ["clock"], [""], ["clock 0", "clock"], [*ORDER, "at 0000"]])
+@pytest.mark.parametrize("lines", [['{"order":"z 0000"}'], ['{"clock":0}'], ["clock 0"], [""], ["[]"], [json.dumps({**ORDER, "at": "0000"})]])
 def test_other_lines_are_no_account(lines):
     with pytest.raises(ValueError):
         accounts.accounts_of(lines)
 
 
 def test_records_are_read():
-    lines = ["orders 2", "times 9", "place 0000 a b", "times 6", "place 0001", "times 3"]
-    assert records.records_of(lines, "orders", "place") == [
-        {"orders": "2", "times": "9"},
-        {"place": "0000 a b", "times": "6"},
-        {"place": "0001", "times": "3"},
-    ]
-    assert records.records_of([], "orders") == []
-    with pytest.raises(ValueError):
-        records.records_of(["orders 2", "times 9", "times 9"], "orders")
-
-
-def test_a_value_of_a_record_is_as_it_was_before_it_was_written():
-    written = ["plain /", r'a \"quoted\" word', r"\\ and \\u0041", r"tab \u0009, \u00e4"]
-    read = [record["text"] for record in records.records_of([f"text {value}" for value in written], "text")]
-    assert read == ["plain /", 'a "quoted" word', "\\ and \\u0041", "tab \t, \u00e4"]
+    lines = ['{"orders":2,"label":null}', '{"place":"0000 a\\"b","times":"9007199254740993"}']
+    told = records.records_of(lines)
+    assert told == [{"orders": 2}, {"place": '0000 a"b', "times": "9007199254740993"}]
+    assert records.number_of(told[1], "times") == 2**53 + 1
+    assert records.records_of([]) == []
 
 
 def test_a_panel_is_read():
-    reply = "\n".join(reply_from("counter 0003", "clock 0")) + "\n"
+    (reply,) = replies_with("counter")
     assert panels.Panel.of_data(reply) == panels.Panel("0003", "00000008", "00000000", "halted stop", "normal", "uuuuuu", False, 0, 213)
-    moved = reply.replace("bp8 up", "bp8 down").replace("reader off", "reader on").replace("tape 0", "tape 17")
-    panel = panels.Panel.of_data(moved)
+    moved = {**json.loads(reply), "bp8": "down", "reader": "on", "tape": 17}
+    panel = panels.Panel.of_data(json.dumps(moved))
     assert (panel.switches, panel.reading, panel.tape) == ("uuduuu", True, 17)
 
 
-@pytest.mark.parametrize("reply", ["", "clock 94\n", "counter 0000\ncounter 0000\n", "counter 0000\nbp8 down\n"])
+@pytest.mark.parametrize("reply", ["", "clock 94\n", '{"clock":94}\n', '{"counter":"0000"}\n{"counter":"0000"}\n', '{"counter":"0000","bp8":"down"}\n'])
 def test_another_reply_is_no_panel(reply):
     with pytest.raises(ValueError):
         panels.Panel.of_data(reply)
 
 
 def test_a_profile_is_read():
-    profile = profiles.profile_of(reply_from("orders 3", "ran 3 rest"))
+    profile = profiles.profile_of([*replies_with("orders"), *replies_with("place")])
     assert (profile.orders, profile.times, profile.elsewhere) == (3, 213, 0)
     assert profile.find + profile.take + profile.seek + profile.act == profile.times
     assert profile.places == (profiles.Place("0000", None, 92), profiles.Place("0001", None, 73), profiles.Place("0002", None, 48))
 
 
-@pytest.mark.parametrize("lines", [[], ["ran 3 rest"] * 6, ["place 0000", "times 3"], ["orders 3"]])
+@pytest.mark.parametrize("lines", [[], ['{"ran":"3 rest"}'] * 6, ['{"place":"0000","times":3}'], ['{"orders":3}']])
 def test_other_lines_are_no_profile(lines):
     with pytest.raises(ValueError):
         profiles.profile_of(lines)

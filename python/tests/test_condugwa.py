@@ -184,7 +184,7 @@ def test_a_told_run_that_the_clock_breaks_off_is_refused(laboratory, monkeypatch
         laboratory.profile(1000)
 
 
-@pytest.mark.parametrize("said", ["", "state a stop order halted the machine: press start continues\n"])
+@pytest.mark.parametrize("said", ["", "state a stop order halted the machine: press start to continue\n"])
 def test_what_is_said_after_a_told_run_is_no_line_of_it(laboratory, monkeypatch, said):
     monkeypatch.setattr(laboratory, "answer", lambda line: f"ran 0 rest\n{said}")
     assert laboratory.trace(1) == []

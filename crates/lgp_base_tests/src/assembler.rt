@@ -8,7 +8,6 @@ use lgp_source::Lines;
 use lgp_word::{Address, Word, read_digits};
 use std::alloc::{AllocError, Allocator, Global};
 
-mod bytes;
 pub mod marks;
 mod patches;
 mod sizes;
@@ -64,7 +63,7 @@ fn are_cells(cells: &[(Address, Word)], wanted: &[Cell]) -> bool {
 }
 
 /// Whether a name and its value are these.
-pub fn is_symbol(symbol: &(Name, u16), name: &[u8], value: u16) -> bool {
+fn is_symbol(symbol: &(Name, u16), name: &[u8], value: u16) -> bool {
     symbol.0.bytes() == name && symbol.1 == value
 }
 
@@ -157,46 +156,27 @@ const PAST_IMAGE: Wanted = Wanted {
     symbols: &[(b"past", 4096)],
 };
 
-/// The place before the loader's.
-const BEFORE_LOADER: Wanted = Wanted {
-    cells: &[(*b"6263", *b"00000000")],
+/// A word at the place before the loader's, and one at the place after it.
+const BESIDE_LOADER: Wanted = Wanted {
+    cells: &[(*b"6263", *b"00000000"), (*b"6322", *b"00000000")],
     start: None,
     symbols: &[],
 };
 
-/// The place after the loader's.
-const BEHIND_LOADER: Wanted = Wanted {
-    cells: &[(*b"6322", *b"00000000")],
-    start: None,
-    symbols: &[],
-};
-
-static SOURCES: [(&[u8], Wanted); 6] = [
+static SOURCES: [(&[u8], Wanted); 5] = [
     (FIRST_PROGRAM, FIRST_IMAGE),
     (OPERATIONS, OPERATION_IMAGE),
     (b" end", EMPTY_IMAGE),
     (b" org 6363\n z\npast end past-1\n; nothing\n\n", PAST_IMAGE),
-    (b" org 6263\n z\n end\n", BEFORE_LOADER),
-    (b" org 6322\n z\n end\n", BEHIND_LOADER),
+    (b" org 6263\n z\n org 6322\n z\n end\n", BESIDE_LOADER),
 ];
-
-/// The first of the sources that does not assemble to what is beside it, and which of its
-/// cells, its start and its names are right.
-fn first_wrong(alloc: Global) -> Option<(usize, [bool; 3])> {
-    let mut place = 0usize;
-    for (source, wanted) in &SOURCES {
-        let right = assembles_to(alloc, source, wanted);
-        if right != [true; 3] {
-            return Some((place, right));
-        }
-        place = place.saturating_add(1);
-    }
-    None
-}
 
 #[test]
 fn sources_without_faults(rt: HostRuntime) {
-    expect_eq(&rt, first_wrong(rt.alloc()), None);
+    for (source, wanted) in &SOURCES {
+        let right = assembles_to(rt.alloc(), source, wanted);
+        expect_eq(&rt, (*source, right), (*source, [true; 3]));
+    }
 }
 
 static FAULTS_IN_ORDER: &[(u64, FaultKind)] = &[
@@ -212,12 +192,6 @@ static FAULTS_IN_ORDER: &[(u64, FaultKind)] = &[
     (14, FaultKind::BadOperand),
     (16, FaultKind::AfterEnd),
 ];
-
-#[test]
-fn faults_in_order_of_lines(rt: HostRuntime) {
-    let found = has_faults(rt.alloc(), FAULTY_SOURCE, FAULTS_IN_ORDER);
-    expect_eq(&rt, found, true);
-}
 
 /// Sources with one fault each, its line and its kind.
 static ONE_FAULT: [(&[u8], u64, FaultKind); 19] = [
@@ -242,32 +216,20 @@ static ONE_FAULT: [(&[u8], u64, FaultKind); 19] = [
     (b" org 6321\n z\n end\n", 2, FaultKind::InLoader),
 ];
 
-/// The place of the first row whose source has another fault, or how many rows there are.
-fn first_other_fault(alloc: Global) -> usize {
-    let mut place = 0usize;
+#[test]
+fn sources_with_faults(rt: HostRuntime) {
     for (source, line, kind) in &ONE_FAULT {
-        if !has_faults(alloc, source, &[(*line, *kind)]) {
-            return place;
-        }
-        place = place.saturating_add(1);
+        let found = has_faults(rt.alloc(), source, &[(*line, *kind)]);
+        expect_eq(&rt, (*source, found), (*source, true));
     }
-    place
-}
-
-#[test]
-fn sources_of_one_fault(rt: HostRuntime) {
-    expect_eq(&rt, first_other_fault(rt.alloc()), 19);
-}
-
-#[test]
-fn faults_about_the_end(rt: HostRuntime) {
     let late = [(1, FaultKind::UnknownName), (3, FaultKind::AfterEnd)];
     let none = [(1, FaultKind::BadByte), (2, FaultKind::NoEnd)];
     let found = [
+        has_faults(rt.alloc(), FAULTY_SOURCE, FAULTS_IN_ORDER),
         has_faults(rt.alloc(), b" b late\n end\nlate z", &late),
         has_faults(rt.alloc(), b" end\x80", &none),
     ];
-    expect_eq(&rt, found, [true; 2]);
+    expect_eq(&rt, found, [true; 3]);
 }
 
 /// Whether the next line makes a word; `None` where there is none.

@@ -1,113 +1,34 @@
-//! Codes and tape text on the table and on values from outside.
+//! Codes and the texts of tapes, ours and those of archives, on the tables and on values from outside.
 
-use crate::expect_eq;
+use crate::{expect_eq, in_turn};
 use lgp_flexo::{
-    Code, TAPE_LIMIT, TextFault, code_of, digit_of, enter, read_archive_text, read_tape_text,
-    sign_of, skipped, write_tape_text,
+    Code, TAPE_LIMIT, TextFault, code_of, codes_of_word, digit_of, enter, read_archive_text,
+    read_tape_text, sign_of, skipped, write_tape_text,
 };
 use lgp_limited::Limited;
-use linked_list_allocator::LocalHeap;
+use lgp_word::Word;
 use std::alloc::{Allocator, Global};
-use std::test::Fail;
 
-mod archives;
+/// The signs of the codes 0 to 63; a question mark stands for none.
+const SIGNS: [u8; 64] = *b"?z0 ?b1-?y2+?r3;?i4/?d5.?n6,?m7v'p8o?e9x?uf??tg??hj??ck??aq??sw?";
 
-/// The numbers and signs of the table.
-static SIGNS: [(u8, char); 43] = [
-    (2, '0'),
-    (6, '1'),
-    (10, '2'),
-    (14, '3'),
-    (18, '4'),
-    (22, '5'),
-    (26, '6'),
-    (30, '7'),
-    (34, '8'),
-    (38, '9'),
-    (42, 'f'),
-    (46, 'g'),
-    (50, 'j'),
-    (54, 'k'),
-    (58, 'q'),
-    (62, 'w'),
-    (1, 'z'),
-    (5, 'b'),
-    (9, 'y'),
-    (13, 'r'),
-    (17, 'i'),
-    (21, 'd'),
-    (25, 'n'),
-    (29, 'm'),
-    (33, 'p'),
-    (37, 'e'),
-    (41, 'u'),
-    (45, 't'),
-    (49, 'h'),
-    (53, 'c'),
-    (57, 'a'),
-    (61, 's'),
-    (32, '\''),
-    (3, ' '),
-    (7, '-'),
-    (11, '+'),
-    (15, ';'),
-    (19, '/'),
-    (23, '.'),
-    (27, ','),
-    (31, 'v'),
-    (35, 'o'),
-    (39, 'x'),
-];
+/// Those that are digits.
+const DIGITS: [u8; 64] = *b"??0???1???2???3???4???5???6???7???8???9???f???g???j???k???q???w?";
 
-/// Whether a number of the table and its sign stand for each other.
-fn stands(number: u8, sign: char) -> bool {
-    match Code::new(number) {
-        Some(code) => sign_of(code) == Some(sign) && code_of(sign) == Some(code),
-        None => false,
+/// The codes that an input skips.
+const SKIPPED: [u8; 64] = *b"x???x???x???x???x???x???x???x???????x???x???x???x???x???x???x??x";
+
+/// What stands for a code in such a table.
+fn listed(table: &[u8; 64], number: u8) -> Option<char> {
+    match table.get(usize::from(number)) {
+        Some(sign) if *sign != b'?' => Some(char::from(*sign)),
+        _ => None,
     }
 }
 
-/// Whether the code of a number has a sign.
-fn has_sign(number: u8) -> bool {
-    match Code::new(number) {
-        Some(code) => sign_of(code).is_some(),
-        None => false,
-    }
-}
-
-/// Whether a number is in the table.
-fn is_in_table(number: u8) -> bool {
-    for (known, _) in &SIGNS {
-        if *known == number {
-            return true;
-        }
-    }
-    false
-}
-
-/// The first number of the table whose sign does not stand for it.
-fn first_apart() -> Option<u8> {
-    for (number, sign) in &SIGNS {
-        if !stands(*number, *sign) {
-            return Some(*number);
-        }
-    }
-    None
-}
-
-/// The first number of a code that has a sign and is not in the table, or has none and is in it.
-fn first_unlisted() -> Option<u8> {
-    for number in 0..64u8 {
-        if has_sign(number) != is_in_table(number) {
-            return Some(number);
-        }
-    }
-    None
-}
-
-#[test]
-fn the_table_stands(rt: HostRuntime) {
-    expect_eq(&rt, [first_apart(), first_unlisted()], [None, None]);
+/// The code of a number, or the conditional stop above all.
+fn code(number: u8) -> Code {
+    Code::new(number).unwrap_or(Code::STOP)
 }
 
 /// The number of a code, where there is one.
@@ -115,144 +36,77 @@ fn number_of(code: Option<Code>) -> Option<u8> {
     Some(code?.number())
 }
 
+/// Whether a code has its sign and is the code of that, is a digit, and is skipped, as the tables say.
+fn is_listed(number: u8) -> [bool; 4] {
+    let (code, sign) = (code(number), listed(&SIGNS, number));
+    let is_digit = listed(&DIGITS, number).is_some();
+    [
+        sign_of(code) == sign,
+        sign.is_none() || code_of(sign.unwrap_or('?')) == Some(code),
+        digit_of(code) == if is_digit { Some(number / 4) } else { None },
+        skipped(code) == listed(&SKIPPED, number).is_some(),
+    ]
+}
+
+/// An `l` is read as a one.
 #[test]
-fn other_signs_and_codes(rt: HostRuntime) {
-    expect_eq(
-        &rt,
-        [
-            number_of(code_of('l')),
-            number_of(code_of('_')),
-            number_of(Code::new(64)),
-            number_of(Some(Code::STOP)),
-        ],
-        [Some(6), None, None, Some(32)],
-    );
-}
-
-/// The digit of a code by its number.
-fn digit_at(number: u8) -> Option<u8> {
-    digit_of(Code::new(number)?)
-}
-
-#[test]
-fn digits_stand_at_their_codes(rt: HostRuntime) {
-    expect_eq(
-        &rt,
-        (
-            [
-                digit_at(2),
-                digit_at(6),
-                digit_at(38),
-                digit_at(42),
-                digit_at(62),
-            ],
-            [
-                digit_at(0),
-                digit_at(1),
-                digit_at(3),
-                digit_at(32),
-                digit_at(57),
-                digit_at(63),
-            ],
-        ),
-        ([Some(0), Some(1), Some(9), Some(10), Some(15)], [None; 6]),
-    );
-}
-
-/// Whether the code of a number is skipped; `None` where it is no code's.
-fn skips(number: u8) -> Option<bool> {
-    Some(skipped(Code::new(number)?))
-}
-
-#[test]
-fn codes_are_skipped(rt: HostRuntime) {
-    expect_eq(
-        &rt,
-        (
-            [
-                skips(0),
-                skips(4),
-                skips(8),
-                skips(12),
-                skips(16),
-                skips(20),
-                skips(24),
-                skips(60),
-                skips(63),
-            ],
-            [
-                skips(1),
-                skips(2),
-                skips(3),
-                skips(32),
-                skips(33),
-                skips(61),
-                skips(62),
-            ],
-        ),
-        ([Some(true); 9], [Some(false); 7]),
-    );
-}
-
-/// What the accumulator holds once the code of a number has entered.
-fn entered(six_bit: bool, accumulator: u32, number: u8) -> Option<u32> {
-    Some(enter(six_bit, accumulator, Code::new(number)?))
+fn codes_are_as_in_the_tables(rt: HostRuntime) {
+    for number in 0..64u8 {
+        expect_eq(&rt, (number, is_listed(number)), (number, [true; 4]));
+    }
+    let others = [
+        number_of(code_of('l')),
+        number_of(code_of('_')),
+        number_of(Code::new(64)),
+        number_of(Some(Code::STOP)),
+    ];
+    expect_eq(&rt, others, [Some(6), None, None, Some(32)]);
 }
 
 #[test]
 fn codes_enter_by_four_or_six_bits(rt: HostRuntime) {
+    let entered = [
+        enter(false, 0x12, code(14)),
+        enter(false, 0xf123_4567, code(62)),
+        enter(true, 0, code(57)),
+        enter(true, 0x0400_0001, code(1)),
+    ];
+    let digits = codes_of_word(Word::of_bits(0x0123_45f6)).map(Code::number);
     expect_eq(
         &rt,
-        [
-            entered(false, 0x12, 14),
-            entered(false, 0xf123_4567, 62),
-            entered(true, 0, 57),
-            entered(true, 0x0400_0001, 1),
-        ],
-        [Some(0x123), Some(0x1234_567f), Some(0x39), Some(0x41)],
+        (entered, digits),
+        (
+            [0x123, 0x1234_567f, 0x39, 0x41],
+            [2, 6, 10, 14, 18, 22, 62, 26],
+        ),
     );
 }
 
-/// How a text is read: how many codes it has and the number of the one at a place; or else the place of its first bad sign and
-/// whether it has too many codes. Neither is so for want of memory.
-type Reading = Result<(usize, Option<u8>), (Option<usize>, bool)>;
-
-const TOO_LONG: Reading = Err((None, true));
-
-const NO_MEMORY: Reading = Err((None, false));
-
-/// A text with a bad sign at this place.
-fn bad(place: usize) -> Reading {
-    Err((Some(place), false))
-}
-
-/// The number of the code at a place.
-fn number_at(codes: &[Code], place: usize) -> Option<u8> {
-    Some(codes.get(place)?.number())
-}
-
-/// How a text was read.
-fn reading<A: Allocator>(read: Result<Vec<Code, A>, TextFault>, place: usize) -> Reading {
-    match read {
-        Ok(codes) => Ok((codes.len(), number_at(codes.as_slice(), place))),
-        Err(TextFault::BadSign(bad)) => Err((Some(bad), false)),
-        Err(TextFault::TooLong) => TOO_LONG,
-        Err(TextFault::Memory(_)) => NO_MEMORY,
-    }
-}
-
 /// The form of a text.
-#[derive(Clone, Copy)]
+#[derive(Clone, Copy, Debug, PartialEq, Eq)]
 enum Form {
     Tape,
     Archive,
 }
 
-/// How a text of a form is read, and the code of it at a place.
-fn read<A: Allocator + Copy>(alloc: A, form: Form, text: &[u8], place: usize) -> Reading {
+/// How a text is read: how many codes it has, or the place of its first bad sign, or that it has too many codes; `None` without
+/// memory.
+type Reading = Option<Result<usize, Option<usize>>>;
+
+/// What was read of a text.
+fn reading<A: Allocator>(read: Result<Vec<Code, A>, TextFault>) -> Reading {
+    match read {
+        Ok(codes) => Some(Ok(codes.len())),
+        Err(TextFault::BadSign(bad)) => Some(Err(Some(bad))),
+        Err(TextFault::TooLong) => Some(Err(None)),
+        Err(TextFault::Memory(_)) => None,
+    }
+}
+
+fn read<A: Allocator + Copy>(alloc: A, form: Form, text: &[u8]) -> Result<Vec<Code, A>, TextFault> {
     match form {
-        Form::Tape => reading(read_tape_text(alloc, text), place),
-        Form::Archive => reading(read_archive_text(alloc, text), place),
+        Form::Tape => read_tape_text(alloc, text),
+        Form::Archive => read_archive_text(alloc, text),
     }
 }
 
@@ -268,42 +122,92 @@ fn have_numbers(codes: &[Code], numbers: &[u8]) -> bool {
     place == numbers.len()
 }
 
-/// Whether a text was read as the codes of these numbers.
-fn has_numbers<A: Allocator>(read: Result<Vec<Code, A>, TextFault>, numbers: &[u8]) -> bool {
-    match read {
-        Ok(codes) => have_numbers(codes.as_slice(), numbers),
-        Err(_) => false,
+/// Whether a text is read as the codes of these numbers; `None` without memory.
+fn is_read<A: Allocator + Copy>(
+    alloc: A,
+    (form, text, numbers): (Form, &[u8], &[u8]),
+) -> Option<bool> {
+    match read(alloc, form, text) {
+        Ok(codes) => Some(have_numbers(codes.as_slice(), numbers)),
+        Err(TextFault::Memory(_)) => None,
+        Err(_) => Some(false),
     }
 }
 
-/// Whether a tape's text is read as the codes of these numbers.
-fn is_read_as(global: Global, text: &[u8], numbers: &[u8]) -> bool {
-    has_numbers(read_tape_text(global, text), numbers)
-}
-
-/// Whether codes are written as a text.
-fn is_written_as(global: Global, codes: &[Code], text: &[u8]) -> bool {
-    match write_tape_text(global, codes) {
-        Ok(written) => written.as_slice() == text,
-        Err(_) => false,
+/// Whether codes are written as a text; `None` without memory.
+fn is_written<A: Allocator + Copy>(alloc: A, codes: &[Code], text: &[u8]) -> Option<bool> {
+    match write_tape_text(alloc, codes) {
+        Ok(written) => Some(written.as_slice() == text),
+        Err(_) => None,
     }
 }
 
-/// The code of a number, or the conditional stop above all.
-fn code(number: u8) -> Code {
-    Code::new(number).unwrap_or(Code::STOP)
+/// The bytes that stand for a code by themselves in a text of an archive, as SIMH's simulator reads them.
+const ARCHIVED: &[u8] =
+    b"\x08\t\r \"#$%'(*+,-./0123456789:;=?ABCDEFGHIJKLMNOPQRSTUVWXYZ[]^_abcdefghijklmnopqrstuvwxyz|~";
+
+/// Their codes.
+const ARCHIVED_CODES: [u8; 88] = [
+    20, 24, 16, 3, 14, 34, 26, 22, 32, 38, 10, 11, 27, 7, 23, 19, 2, 6, 10, 14, 18, 22, 26, 30, 34,
+    38, 15, 15, 11, 19, 57, 5, 53, 21, 37, 42, 46, 49, 17, 50, 54, 6, 29, 25, 35, 33, 58, 13, 61,
+    45, 41, 31, 62, 39, 9, 1, 27, 23, 18, 7, 57, 5, 53, 21, 37, 42, 46, 49, 17, 50, 54, 6, 29, 25,
+    35, 33, 58, 13, 61, 45, 41, 31, 62, 39, 9, 1, 12, 30,
+];
+
+/// Texts and the numbers of their codes: of an archive each byte by itself, groups, and a line of a program with a heading.
+static READ: [(Form, &[u8], &[u8]); 5] = [
+    (Form::Tape, b"12[16]3'", &[6, 10, 16, 14, 32]),
+    (Form::Tape, b"l\r\n[02][63]\n", &[6, 2, 63]),
+    (Form::Archive, ARCHIVED, &ARCHIVED_CODES),
+    (Form::Archive, b"a!00!63\ns", &[57, 0, 63, 61]),
+    (
+        Form::Archive,
+        b";000L'/0r\r\n!08LOG!04'",
+        &[15, 2, 2, 2, 6, 32, 19, 2, 13, 16, 8, 6, 35, 46, 4, 32],
+    ),
+];
+
+/// Bad texts, and the places of their first bad bytes.
+static BAD: [(Form, &[u8], usize); 16] = [
+    (Form::Tape, b"[6", 0),
+    (Form::Tape, b"[64]", 0),
+    (Form::Tape, b"[0a]", 0),
+    (Form::Tape, b"[[02]", 0),
+    (Form::Tape, b"1[02", 1),
+    (Form::Tape, b"12A", 2),
+    (Form::Tape, b"1[03]A_", 5),
+    (Form::Tape, b"\n[03]]", 5),
+    (Form::Archive, b"!", 0),
+    (Form::Archive, b"!1", 0),
+    (Form::Archive, b"a!64", 1),
+    (Form::Archive, b"!0a", 0),
+    (Form::Archive, b"!!04", 0),
+    (Form::Archive, b"!04!64)", 3),
+    (Form::Archive, b"12\n<34", 3),
+    (Form::Archive, b"[02]@", 4),
+];
+
+/// How a text is read where the first growth is refused, and whether one was asked for.
+fn read_without_memory(global: Global, form: Form, text: &[u8]) -> (Reading, bool) {
+    let limited = Limited::new(global);
+    limited.refuse(1);
+    (reading(read(&limited, form, text)), limited.was_refused())
 }
 
+/// A bad sign is reported without memory.
 #[test]
-fn tapes_are_read(rt: HostRuntime) {
-    expect_eq(
-        &rt,
-        [
-            is_read_as(rt.alloc(), b"12[16]3'", &[6, 10, 16, 14, 32]),
-            is_read_as(rt.alloc(), b"l\r\n[02]\n", &[6, 2]),
-        ],
-        [true; 2],
-    );
+fn texts_are_read_or_refused(rt: HostRuntime) {
+    for row in &READ {
+        expect_eq(&rt, (row.1, is_read(rt.alloc(), *row)), (row.1, Some(true)));
+    }
+    for (form, text, place) in &BAD {
+        let seen = read_without_memory(rt.alloc(), *form, text);
+        expect_eq(
+            &rt,
+            (*text, seen),
+            (*text, (Some(Err(Some(*place))), false)),
+        );
+    }
 }
 
 /// The codes of the text `12[16]3'`.
@@ -311,221 +215,68 @@ fn five_codes() -> [Code; 5] {
     [code(6), code(10), code(16), code(14), code(32)]
 }
 
-#[test]
-fn tapes_are_written(rt: HostRuntime) {
-    let others = [code(63), code(0), code(28)];
-    expect_eq(
-        &rt,
-        [
-            is_written_as(rt.alloc(), &five_codes(), b"12[16]3'"),
-            is_written_as(rt.alloc(), &others, b"[63][00][28]"),
-        ],
-        [true; 2],
-    );
-}
-
-/// Bad texts, and the places of their first bad signs.
-static BAD_TEXTS: [(&[u8], usize); 8] = [
-    (b"[6", 0),
-    (b"[64]", 0),
-    (b"[0a]", 0),
-    (b"[[02]", 0),
-    (b"1[02", 1),
-    (b"12A", 2),
-    (b"1[03]A_", 5),
-    (b"\n[03]]", 5),
-];
-
-/// How many of such texts come before the first that is not refused at its place.
-fn texts_refused(global: Global, form: Form, texts: &[(&[u8], usize)]) -> usize {
-    let mut refused = 0usize;
-    for (text, place) in texts {
-        if read(global, form, text, 0) != bad(*place) {
-            return refused;
-        }
-        refused = refused.saturating_add(1);
-    }
-    refused
-}
-
-#[test]
-fn bad_texts_are_refused(rt: HostRuntime) {
-    let refused = [
-        texts_refused(rt.alloc(), Form::Tape, &BAD_TEXTS),
-        texts_refused(rt.alloc(), Form::Archive, &archives::BAD_TEXTS),
+/// How many growths the reading of both texts and the writing of one have, each of which is refused in turn, and how many blocks are
+/// out at last.
+fn growths_of_texts(global: Global) -> ([u64; 3], u64) {
+    let limited = Limited::new(global);
+    let codes = five_codes();
+    let found = [
+        in_turn(&limited, || is_read(&limited, READ[0])),
+        in_turn(&limited, || is_read(&limited, READ[3])),
+        in_turn(&limited, || is_written(&limited, &codes, b"12[16]3'")),
     ];
-    expect_eq(&rt, refused, [8; 2]);
-}
-
-/// Whether a tape's text is read as these codes.
-fn is_read_back(global: Global, text: &[u8], codes: &[Code]) -> bool {
-    match read_tape_text(global, text) {
-        Ok(read) => read.as_slice() == codes,
-        Err(_) => false,
-    }
-}
-
-/// Whether codes without a sign are written by groups, and their text is read as these codes.
-fn is_written_and_read(global: Global, codes: &[Code]) -> bool {
-    match write_tape_text(global, codes) {
-        Ok(text) => {
-            text.len() == codes.len().saturating_mul(4) && is_read_back(global, &text, codes)
-        }
-        Err(_) => false,
-    }
-}
-
-/// The same of a tape of a given number of codes; `None` without memory.
-fn long_is_written_and_read(global: Global, count: usize) -> Option<bool> {
-    let codes = vec![in global; code(16); count].ok()?;
-    Some(is_written_and_read(global, codes.as_slice()))
+    (found, limited.blocks_out())
 }
 
 #[test]
-fn the_longest_tape_is_written_and_read(rt: HostRuntime) {
+fn tapes_are_written_and_each_growth_is_refused(rt: HostRuntime) {
+    let others = is_written(rt.alloc(), &[code(63), code(0), code(28)], b"[63][00][28]");
+    let (found, blocks) = growths_of_texts(rt.alloc());
+    let have_grown = [found[0] > 0, found[1] > 0, found[2] > 0];
     expect_eq(
         &rt,
-        long_is_written_and_read(rt.alloc(), TAPE_LIMIT),
-        Some(true),
+        (others, have_grown, blocks),
+        (Some(true), [true; 3], 0),
     );
 }
 
-/// How a text of a given number of signs is read, with others after them; `None` without memory for the text.
-fn read_many(
-    global: Global,
-    form: Form,
-    (sign, count): (u8, usize),
-    others: &[u8],
-) -> Option<Reading> {
+/// How long the text of a tape is, and whether the tape is read back from it; `None` without memory.
+fn written_and_read(global: Global, codes: &[Code]) -> Option<(usize, bool)> {
+    let text = write_tape_text(global, codes).ok()?;
+    match read_tape_text(global, text.as_slice()) {
+        Ok(read) => Some((text.len(), read.as_slice() == codes)),
+        Err(_) => None,
+    }
+}
+
+/// The same of a tape of a given number of codes without a sign.
+fn long_written_and_read(global: Global, count: usize) -> Option<(usize, bool)> {
+    let codes = vec![in global; code(16); count].ok()?;
+    written_and_read(global, codes.as_slice())
+}
+
+/// How a text of a given number of signs is read, with others after them.
+fn read_many(global: Global, form: Form, (sign, count): (u8, usize), others: &[u8]) -> Reading {
     let mut text = vec![in global; sign; count].ok()?;
     text.extend_from_slice(others).ok()?;
-    Some(read(global, form, text.as_slice(), 0))
+    reading(read(global, form, text.as_slice()))
 }
 
 #[test]
-fn one_code_too_many_is_refused(rt: HostRuntime) {
+fn the_longest_tape_is_written_and_read_and_one_code_more_is_refused(rt: HostRuntime) {
     let alloc = rt.alloc();
     let read = [
         read_many(alloc, Form::Tape, (b'a', TAPE_LIMIT + 1), b""),
         read_many(alloc, Form::Archive, (b'\r', TAPE_LIMIT), b"\n\n"),
         read_many(alloc, Form::Archive, (b'\r', TAPE_LIMIT + 1), b""),
     ];
-    let longest = Some(Ok((TAPE_LIMIT, Some(16))));
-    expect_eq(&rt, read, [Some(TOO_LONG), longest, Some(TOO_LONG)]);
-}
-
-/// The number of the code that a byte alone stands for in a text, where it stands for one.
-fn code_of_byte(form: Form, byte: u8) -> Option<u8> {
-    if matches!(form, Form::Archive) {
-        return archives::number_of(byte);
-    }
-    if byte == b'l' {
-        return Some(6);
-    }
-    for (number, sign) in &SIGNS {
-        if *sign == char::from(byte) {
-            return Some(*number);
-        }
-    }
-    None
-}
-
-/// Whether a byte at one of three places of a text is read as the table says.
-fn is_read_right(global: Global, form: Form, byte: u8, place: usize) -> bool {
-    let mut text = *b"aaa";
-    text[place % 3] = byte;
-    let read = read(global, form, &text, place % 3);
-    match code_of_byte(form, byte) {
-        Some(number) => read == Ok((3, Some(number))),
-        None if matches!(byte, b'\n' | b'\r') => matches!(read, Ok((2, _))),
-        None => read == bad(place % 3),
-    }
-}
-
-/// The first byte that is not.
-fn first_misread(global: Global, form: Form) -> Option<u8> {
-    for byte in 0..=255u8 {
-        if !(is_read_right(global, form, byte, 0)
-            && is_read_right(global, form, byte, 1)
-            && is_read_right(global, form, byte, 2))
-        {
-            return Some(byte);
-        }
-    }
-    None
-}
-
-#[test]
-fn each_byte_anywhere_in_a_text(rt: HostRuntime) {
-    let misread = [
-        first_misread(rt.alloc(), Form::Tape),
-        first_misread(rt.alloc(), Form::Archive),
-    ];
-    expect_eq(&rt, misread, [None; 2]);
-}
-
-/// How a text of five codes is read in each form, and whether these codes can be written.
-type Done = ([Reading; 2], bool);
-
-fn read_and_written(heap: &LocalHeap, codes: &[Code]) -> Done {
-    let read = [
-        read(heap, Form::Tape, b"12[16]3'", 0),
-        read(heap, Form::Archive, b"12\r3'", 0),
-    ];
-    (read, write_tape_text(heap, codes).is_ok())
-}
-
-/// The same where the heap has so much room.
-fn within_room(heap: &LocalHeap, room: usize, codes: &[Code]) -> Option<Done> {
-    let filler: Vec<u8, &LocalHeap> = Vec::with_capacity(
-        heap,
-        heap.free().saturating_sub(room),
-    ).ok()?;
-    let done = read_and_written(heap, codes);
-    drop(filler);
-    Some(done)
-}
-
-/// The first room below 512 bytes in which something is left in the heap.
-fn first_leak(heap: &LocalHeap, codes: &[Code]) -> Option<usize> {
-    for room in 0..512usize {
-        if within_room(heap, room, codes).is_none() || heap.used() != 0 {
-            return Some(room);
-        }
-    }
-    None
-}
-
-/// What is read and written without room and with enough, and the first leak between.
-fn growths(heap: &LocalHeap, codes: &[Code]) -> ([Option<Done>; 2], Option<usize>) {
-    let refused = within_room(heap, 0, codes);
-    let leak = first_leak(heap, codes);
-    ([refused, within_room(heap, 512, codes)], leak)
-}
-
-#[test]
-fn each_growth_may_be_refused(rt: HostRuntime) -> Result<(), Fail> {
-    let heap = LocalHeap::new(rt.alloc(), 1024)?;
-    let grown = growths(&heap, &five_codes());
-    let refused = Some(([NO_MEMORY; 2], false));
-    let done = Some(([Ok((5, Some(6))); 2], true));
-    expect_eq(&rt, grown, ([refused, done], None));
-    Ok(())
-}
-
-/// How a text is read where the first growth is refused, and how many blocks are out then.
-fn refused(global: Global, form: Form, text: &[u8]) -> (Reading, u64) {
-    let limited = Limited::new(global);
-    limited.refuse(1);
-    (read(&limited, form, text, 0), limited.blocks_out())
-}
-
-#[test]
-fn a_bad_sign_is_reported_without_memory(rt: HostRuntime) {
-    let reported = [
-        refused(rt.alloc(), Form::Tape, b"1A"),
-        refused(rt.alloc(), Form::Archive, b"1<"),
-        refused(rt.alloc(), Form::Archive, b"1"),
-    ];
-    expect_eq(&rt, reported, [(bad(1), 0), (bad(1), 0), (NO_MEMORY, 0)]);
+    let written = long_written_and_read(alloc, TAPE_LIMIT);
+    expect_eq(
+        &rt,
+        (written, read),
+        (
+            Some((4 * TAPE_LIMIT, true)),
+            [Some(Err(None)), Some(Ok(1_048_576)), Some(Err(None))],
+        ),
+    );
 }

@@ -52,19 +52,6 @@ static MADE: [Row; 15] = [
     (By::Div, 4, b"wwwwwwwf", b"ffffffff", false),
 ];
 
-/// The place of the first row whose order makes something else, or how many rows there are.
-fn first_made_otherwise() -> usize {
-    let mut place = 0usize;
-    for (by, accumulator, digits, wanted, overflow) in &MADE {
-        let arith = made(*by, *accumulator, word(*digits));
-        if write_bits(arith.accumulator) != **wanted || arith.overflow != *overflow {
-            return place;
-        }
-        place = place.saturating_add(1);
-    }
-    place
-}
-
 /// The digits of the word of a decimal, or why it is none.
 fn read(text: &[u8]) -> Result<[u8; 8], FractionFault> {
     Ok(write_digits(Fraction::from_decimal(text)?.word()))
@@ -99,18 +86,6 @@ static READ: [(&[u8], Result<[u8; 8], FractionFault>); 25] = [
     (b"1.999999999999", Err(FractionFault::OutOfRange)),
 ];
 
-/// The place of the first decimal that is read otherwise, or how many there are.
-fn first_read_otherwise() -> usize {
-    let mut place = 0usize;
-    for (text, wanted) in &READ {
-        if read(text) != *wanted {
-            return place;
-        }
-        place = place.saturating_add(1);
-    }
-    place
-}
-
 /// Digits of words, and their decimals.
 static WRITTEN: [([u8; 8], [u8; 12]); 7] = [
     (*b"0jjjjjjj", *b" .0999999996"),
@@ -122,26 +97,19 @@ static WRITTEN: [([u8; 8], [u8; 12]); 7] = [
     (*b"00000000", *b" .0000000000"),
 ];
 
-/// The place of the first word whose decimal is another or is not read as that word, or how many there are.
-fn first_written_otherwise() -> usize {
-    let mut place = 0usize;
-    for (digits, wanted) in &WRITTEN {
-        let text = Fraction::of_word(word(digits)).to_decimal();
-        if text != *wanted || read(&text) != Ok(*digits) {
-            return place;
-        }
-        place = place.saturating_add(1);
-    }
-    place
-}
-
 #[test]
 fn orders_of_arithmetic_and_decimals(rt: HostRuntime) {
     rounding::nearest_is_nearest();
-    let seen = [
-        first_made_otherwise(),
-        first_read_otherwise(),
-        first_written_otherwise(),
-    ];
-    expect_eq(&rt, seen, [MADE.len(), READ.len(), WRITTEN.len()]);
+    for (by, accumulator, digits, wanted, overflow) in &MADE {
+        let arith = made(*by, *accumulator, word(*digits));
+        let seen = (write_bits(arith.accumulator), arith.overflow);
+        expect_eq(&rt, seen, (**wanted, *overflow));
+    }
+    for (text, wanted) in &READ {
+        expect_eq(&rt, (*text, read(text)), (*text, *wanted));
+    }
+    for (digits, wanted) in &WRITTEN {
+        let text = Fraction::of_word(word(digits)).to_decimal();
+        expect_eq(&rt, (text, read(&text)), (*wanted, Ok(*digits)));
+    }
 }

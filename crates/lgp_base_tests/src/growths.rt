@@ -1,13 +1,11 @@
 //! Calls with each growth refused in turn: each time the answer is that there is no memory, and at last it is what there is with
 //! ample memory.
 
-use crate::assembler::{
-    FAULTY_SOURCE, FIRST_PROGRAM, OPERATIONS, are_named, is_symbol, marks, surveys,
-};
+use crate::assembler::{FAULTY_SOURCE, FIRST_PROGRAM, OPERATIONS, are_named, marks, surveys};
 use crate::exchange::{codes_of, drums, paper_of};
-use crate::expect_eq;
 use crate::listing::dumps;
-use lgp_assembler::{AssembleError, Fault, FaultKind, Image, Name, assemble};
+use crate::{expect_eq, in_turn};
+use lgp_assembler::{AssembleError, Fault, FaultKind, Image, assemble};
 use lgp_drum::Drum;
 use lgp_exchange::{
     BytesFault, ExaminedFault, deposits_of, read_examined, read_tape_bytes, tape_bytes,
@@ -17,32 +15,7 @@ use lgp_flexo::Code;
 use lgp_limited::Limited;
 use lgp_listing::{DumpFault, dump, listing, read_dump};
 use lgp_word::Address;
-use linked_list_allocator::LocalHeap;
 use std::alloc::{AllocError, Allocator, Global};
-
-/// More growths than any of these calls has.
-const MOST: u64 = 200;
-
-/// A call that takes memory, with what it gives with ample memory.
-#[derive(Clone, Copy)]
-enum Call<'a> {
-    /// The image of a source.
-    Assembly(&'a [u8], &'a Result<Image, AssembleError>),
-    /// The listing of a source.
-    Listing(&'a [u8], &'a Result<Vec<u8>, AssembleError>),
-    /// A line with the mark of its fault, that of an unknown name.
-    Marked(&'a [u8], &'a [u8]),
-    /// What is known of the lines of a source.
-    Survey(&'a [u8], &'a [surveys::Row]),
-    /// A form of a drum or of codes.
-    Written(Form<'a>, &'a [u8]),
-    /// The drum of a dump.
-    ReadDump(&'a [u8], &'a Drum),
-    /// The tape of bytes.
-    ReadBytes(&'a [u8], &'a [Code]),
-    /// The drum of a text.
-    Examined(&'a [u8], &'a Drum),
-}
 
 /// In which form a drum or codes are written.
 #[derive(Clone, Copy)]
@@ -70,27 +43,14 @@ fn written<A: Allocator + Copy>(alloc: A, form: Form) -> Result<Vec<u8, A>, Allo
     }
 }
 
-/// Whether names and values are the same.
-fn same_symbols(found: &[(Name, u16)], wanted: &[(Name, u16)]) -> bool {
-    let mut place = 0usize;
-    for (name, value) in wanted {
-        match found.get(place) {
-            Some(symbol) if is_symbol(symbol, name.bytes(), *value) => {}
-            _ => return false,
-        }
-        place = place.saturating_add(1);
-    }
-    found.len() == wanted.len()
-}
-
-/// Whether words, start and names are those of a source with ample memory.
+/// Whether words, start and the number of names are those of a source with ample memory.
 fn same_image<A: Allocator>(found: &Image<A>, ample: &Result<Image, AssembleError>) -> bool {
     match ample {
         Ok(wanted) => {
             let are_same = [
                 found.cells() == wanted.cells(),
                 found.start() == wanted.start(),
-                same_symbols(found.symbols(), wanted.symbols()),
+                found.symbols().len() == wanted.symbols().len(),
             ];
             are_same == [true; 3]
         }
@@ -128,7 +88,7 @@ fn is_assembled<A: Allocator + Copy>(
     }
 }
 
-fn is_listed<A: Allocator + Copy>(
+fn is_listed_so<A: Allocator + Copy>(
     alloc: A,
     source: &[u8],
     ample: &Result<Vec<u8>, AssembleError>,
@@ -171,19 +131,6 @@ pub fn is_tape_of_bytes<A: Allocator>(alloc: A, bytes: &[u8], ample: &[Code]) ->
     }
 }
 
-fn is_same<A: Allocator + Copy>(alloc: A, call: Call) -> Option<bool> {
-    match call {
-        Call::Assembly(source, ample) => is_assembled(alloc, source, ample),
-        Call::Listing(source, ample) => is_listed(alloc, source, ample),
-        Call::Marked(line, ample) => marks::is_shown(alloc, line, FaultKind::UnknownName, ample),
-        Call::Survey(source, rows) => surveys::is_surveyed(alloc, source, rows),
-        Call::Written(form, ample) => is_written(alloc, form, ample),
-        Call::ReadDump(text, ample) => is_dumped_drum(alloc, text, ample),
-        Call::ReadBytes(bytes, ample) => is_tape_of_bytes(alloc, bytes, ample),
-        Call::Examined(text, ample) => is_examined_drum(alloc, text, ample),
-    }
-}
-
 /// Whether two drums have the same words.
 pub fn same_words<A: Allocator, B: Allocator>(drum: &Drum<A>, other: &Drum<B>) -> bool {
     for number in 0..4096 {
@@ -195,20 +142,6 @@ pub fn same_words<A: Allocator, B: Allocator>(drum: &Drum<A>, other: &Drum<B>) -
     true
 }
 
-/// Calls with each growth refused in turn. How many growths the call has; 0 where one is refused and the answer is another than that,
-/// or where none is and the answer is another than with ample memory.
-fn growths<B: Allocator>(limited: &Limited<B>, call: Call) -> u64 {
-    for nth in 0..MOST {
-        limited.refuse(nth + 1);
-        match (is_same(limited, call), limited.was_refused()) {
-            (None, true) => {}
-            (Some(true), false) => return nth,
-            _ => return 0,
-        }
-    }
-    0
-}
-
 /// How many growths the assembly of a source has, or its listing.
 fn growths_of<B: Allocator>(
     limited: &Limited<B>,
@@ -216,9 +149,11 @@ fn growths_of<B: Allocator>(
     (is_listed, source): (bool, &[u8]),
 ) -> u64 {
     if is_listed {
-        growths(limited, Call::Listing(source, &listing(global, source)))
+        let ample = listing(global, source);
+        in_turn(limited, || is_listed_so(limited, source, &ample))
     } else {
-        growths(limited, Call::Assembly(source, &assemble(global, source)))
+        let ample = assemble(global, source);
+        in_turn(limited, || is_assembled(limited, source, &ample))
     }
 }
 
@@ -239,25 +174,6 @@ static SOURCES: [(bool, &[u8], u64); 10] = [
     (true, b"", 2),
 ];
 
-/// The place of the first source that has fewer growths, or how many sources there are.
-fn first_with_fewer<B: Allocator>(limited: &Limited<B>, global: Global) -> usize {
-    let mut place = 0usize;
-    for (is_listed, source, least) in &SOURCES {
-        if growths_of(limited, global, (*is_listed, source)) < *least {
-            return place;
-        }
-        place = place.saturating_add(1);
-    }
-    place
-}
-
-/// The same over a heap of its own, and how many bytes are used there at last.
-fn fewer_over_heap(global: Global) -> Option<(usize, usize)> {
-    let heap = LocalHeap::new(global, 65536).ok()?;
-    let found = first_with_fewer(&Limited::new(&heap), global);
-    Some((found, heap.used()))
-}
-
 /// Whether the assembly of a thousand words has at least seven growths, and how many blocks are out at last.
 fn growths_of_words(global: Global) -> (bool, u64) {
     let mut source = Vec::new(global);
@@ -270,17 +186,24 @@ fn growths_of_words(global: Global) -> (bool, u64) {
 /// The thousand words, their names and the table of names grow more than once each.
 #[test]
 fn each_growth_of_an_assembly_and_of_a_listing_is_refused(rt: HostRuntime) {
-    let found = (fewer_over_heap(rt.alloc()), growths_of_words(rt.alloc()));
-    let wanted = (Some((10, 0)), (true, 0));
-    expect_eq(&rt, found, wanted);
+    let limited = Limited::new(rt.alloc());
+    for (is_listed, source, least) in &SOURCES {
+        let found = growths_of(&limited, rt.alloc(), (*is_listed, source));
+        let seen = (*source, found >= *least, limited.blocks_out());
+        expect_eq(&rt, seen, (*source, true, 0));
+    }
+    expect_eq(&rt, growths_of_words(rt.alloc()), (true, 0));
 }
 
-/// How many growths a survey has, and how many blocks are out at last. The marks of the places that are taken, the names with their places and with their lines, and
-/// the lines take memory.
+/// How many growths a survey has, and how many blocks are out at last. The marks of the places that are taken, the names with their
+/// places and with their lines, and the lines take memory.
 fn growths_of_survey(global: Global) -> (bool, u64) {
     let limited = Limited::new(global);
     let rows = surveys::rows();
-    let found = growths(&limited, Call::Survey(surveys::SURVEYED, &rows));
+    let found = in_turn(
+        &limited,
+        || surveys::is_surveyed(&limited, surveys::SURVEYED, &rows),
+    );
     (found >= 4, limited.blocks_out())
 }
 
@@ -289,146 +212,107 @@ fn each_growth_of_a_survey_is_refused(rt: HostRuntime) {
     expect_eq(&rt, growths_of_survey(rt.alloc()), (true, 0));
 }
 
-/// How long the dump of a drum is, and whether it and the drum read from it have growths.
-fn growths_of_dump<B: Allocator>(
-    limited: &Limited<B>,
-    global: Global,
-    drum: &Drum,
-) -> (usize, [bool; 2]) {
-    match dump(global, drum) {
-        Ok(text) => (
-            text.len(),
-            [
-                growths(limited, Call::Written(Form::Dump(drum), &text)) >= 1,
-                growths(limited, Call::ReadDump(&text, drum)) >= 1,
-            ],
-        ),
-        Err(_) => (0, [false; 2]),
-    }
+/// Whether the dump of a drum and the drum read from it have growths.
+fn growths_of_dump<B: Allocator>(limited: &Limited<B>, drum: &Drum, text: &[u8]) -> [bool; 2] {
+    [
+        in_turn(limited, || is_written(limited, Form::Dump(drum), text)) >= 1,
+        in_turn(limited, || is_dumped_drum(limited, text, drum)) >= 1,
+    ]
 }
 
-/// How long the deposits of a drum are, and whether they have more growths than one, and the drum read from them has one.
-fn growths_of_deposits<B: Allocator>(
-    limited: &Limited<B>,
-    global: Global,
-    drum: &Drum,
-) -> (usize, [bool; 2]) {
-    match deposits_of(global, drum) {
-        Ok(text) => (
-            text.len(),
-            [
-                growths(limited, Call::Written(Form::Deposits(drum), &text)) > 1,
-                growths(limited, Call::Examined(&text, drum)) == 1,
-            ],
-        ),
-        Err(_) => (0, [false; 2]),
-    }
+/// Whether the deposits of a drum have more growths than one, and the drum read from them has one.
+fn growths_of_deposits<B: Allocator>(limited: &Limited<B>, drum: &Drum, text: &[u8]) -> [bool; 2] {
+    [
+        in_turn(limited, || is_written(limited, Form::Deposits(drum), text)) > 1,
+        in_turn(limited, || is_examined_drum(limited, text, drum)) == 1,
+    ]
 }
 
-/// The same of both texts, how many bytes are used of a heap at last, and how many blocks are out.
-type OverHeap = ([(usize, [bool; 2]); 2], usize, u64);
+/// How long both texts of a drum are, the same of them, and how many blocks are out at last.
+type Texts = ([usize; 2], [[bool; 2]; 2], u64);
 
-/// Both texts of a drum over a heap of its own.
-fn drum_over_heap(global: Global, drum: &Drum) -> Option<OverHeap> {
-    let Ok(heap) = LocalHeap::new(global, 1 << 20) else {
-        return None;
-    };
-    let limited = Limited::new(&heap);
+fn growths_of_texts(global: Global, drum: &Drum) -> Option<Texts> {
+    let (dumped, deposited) = (dump(global, drum).ok()?, deposits_of(global, drum).ok()?);
+    let limited = Limited::new(global);
     let found = [
-        growths_of_dump(&limited, global, drum),
-        growths_of_deposits(&limited, global, drum),
+        growths_of_dump(&limited, drum, dumped.as_slice()),
+        growths_of_deposits(&limited, drum, deposited.as_slice()),
     ];
-    Some((found, heap.used(), limited.blocks_out()))
+    let lengths = [dumped.len(), deposited.len()];
+    Some((lengths, found, limited.blocks_out()))
 }
 
 /// The same of a drum without a word of zeros.
-fn full_drum_over_heap(global: Global) -> Option<OverHeap> {
-    match drums::full_drum(global) {
-        Some(drum) => drum_over_heap(global, &drum),
-        None => None,
-    }
+fn growths_of_full_drum(global: Global) -> Option<Texts> {
+    let drum = drums::full_drum(global)?;
+    growths_of_texts(global, &drum)
+}
+
+/// The lengths of both texts, whether each call had its growths, and how many blocks are out.
+fn seen_of((both, blocks): ([Growths; 2], u64)) -> ([usize; 2], [bool; 4], u64) {
+    let [dumped, deposited] = both;
+    let (dump, deposits) = (dumped.1, deposited.1);
+    (
+        [dumped.0, deposited.0],
+        [
+            dump[0] >= 1,
+            dump[1] >= 1,
+            deposits[0] > 1,
+            deposits[1] == 1,
+        ],
+        blocks,
+    )
 }
 
 /// A line of a dump has 14 bytes, and a deposit 20.
 #[test]
 fn each_growth_over_a_full_drum_is_refused(rt: HostRuntime) {
-    let found = [(4096 * 14, [true; 2]), (4096 * 20, [true; 2])];
-    expect_eq(&rt, full_drum_over_heap(rt.alloc()), Some((found, 0, 0)));
+    let found = match growths_of_full_drum(rt.alloc()) {
+        Some(found) => seen_of(found),
+        None => ([0; 2], [false; 4], 0),
+    };
+    expect_eq(&rt, found, ([4096 * 14, 4096 * 20], [true; 4], 0));
 }
 
-/// Whether the text of a tape of a hundred zeros has more growths than one, its bytes and the tape read from these have one each, and
-/// the mark of a line has more than one.
-fn growths_of_tape<B: Allocator>(limited: &Limited<B>, codes: &[Code]) -> [bool; 4] {
+/// Whether the text of a tape of a hundred zeros has more growths than one, its bytes and the tape read from these have one each, the
+/// mark of a line has more than one, and the paper of a row with a tab and many signs more than five.
+fn growths_of_codes<B: Allocator>(limited: &Limited<B>, tape: &[Code], row: &[Code]) -> [bool; 5] {
     let marked = b"         b none\n           ^^^^\n";
+    let mut paper = [b'a'; 100];
+    paper[..8].copy_from_slice(b"        ");
     [
-        growths(limited, Call::Written(Form::Archive(codes), &[b'0'; 100])) > 1,
-        growths(limited, Call::Written(Form::Bytes(codes), &[2; 100])) == 1,
-        growths(limited, Call::ReadBytes(&[2; 100], codes)) == 1,
-        growths(limited, Call::Marked(b" b none", marked)) > 1,
+        in_turn(
+            limited,
+            || is_written(limited, Form::Archive(tape), &[b'0'; 100]),
+        ) > 1,
+        in_turn(
+            limited,
+            || is_written(limited, Form::Bytes(tape), &[2; 100]),
+        ) == 1,
+        in_turn(limited, || is_tape_of_bytes(limited, &[2; 100], tape)) == 1,
+        in_turn(
+            limited,
+            || marks::is_shown(limited, b" b none", FaultKind::UnknownName, marked),
+        ) > 1,
+        in_turn(limited, || is_written(limited, Form::Paper(row), &paper)) > 5,
     ]
 }
 
-/// The paper of a row with a tab and many signs has more growths than five.
-fn grows_by_paper<B: Allocator>(limited: &Limited<B>, codes: &[Code]) -> bool {
-    let mut text = [b'a'; 100];
-    text[..8].copy_from_slice(b"        ");
-    growths(limited, Call::Written(Form::Paper(codes), &text)) > 5
-}
-
-/// Both over a heap; then how many bytes are used of the heap at last, and how many blocks are out.
-fn codes_over_heap(
-    global: Global,
-    tape: &[Code],
-    row: &[Code],
-) -> Option<([bool; 4], bool, usize, u64)> {
-    let Ok(heap) = LocalHeap::new(global, 65_536) else {
-        return None;
-    };
-    let limited = Limited::new(&heap);
-    let found = growths_of_tape(&limited, tape);
-    let grows = grows_by_paper(&limited, row);
-    Some((found, grows, heap.used(), limited.blocks_out()))
-}
-
-/// The same of such a tape and such a row.
-fn tape_and_row_over_heap(global: Global) -> Option<([bool; 4], bool, usize, u64)> {
+/// The same, and how many blocks are out at last.
+fn growths_of_tape_and_row(global: Global) -> Option<([bool; 5], u64)> {
     let mut row = [57; 93];
     row[0] = 24;
-    match (codes_of(global, &[2; 100]), codes_of(global, &row)) {
-        (Some(tape), Some(row)) => codes_over_heap(global, &tape, &row),
-        _ => None,
-    }
+    let (tape, row) = (codes_of(global, &[2; 100])?, codes_of(global, &row)?);
+    let limited = Limited::new(global);
+    let found = growths_of_codes(&limited, tape.as_slice(), row.as_slice());
+    Some((found, limited.blocks_out()))
 }
 
 #[test]
 fn each_growth_over_codes_is_refused(rt: HostRuntime) {
-    let wanted = ([true; 4], true, 0, 0);
-    expect_eq(&rt, tape_and_row_over_heap(rt.alloc()), Some(wanted));
-}
-
-/// Whether a byte above 63 is refused as such.
-fn is_no_code<A: Allocator>(alloc: A) -> bool {
-    match read_tape_bytes(alloc, &[1, 64]) {
-        Err(BytesFault::NoCode(1)) => true,
-        _ => false,
-    }
-}
-
-/// The places of the first text that is no dump, and of the first that is no drum as SIMH shows it, with another fault where the first
-/// growth is refused; whether a byte above 63 is refused then, and whether there was a growth.
-fn faults_without_memory<B: Allocator>(limited: &Limited<B>) -> (usize, usize, bool, bool) {
-    limited.refuse(1);
-    (
-        dumps::first_other_fault(limited),
-        drums::first_other_fault(limited),
-        is_no_code(limited),
-        limited.was_refused(),
-    )
-}
-
-#[test]
-fn faults_are_reported_without_memory(rt: HostRuntime) {
-    let found = faults_without_memory(&Limited::new(rt.alloc()));
-    let wanted = (dumps::NO_DUMPS.len(), drums::FAULTY.len(), true, false);
-    expect_eq(&rt, found, wanted);
+    expect_eq(
+        &rt,
+        growths_of_tape_and_row(rt.alloc()),
+        Some(([true; 5], 0)),
+    );
 }

@@ -32,7 +32,9 @@ mod table;
 mod word;
 
 #[cfg(test)]
-use std::alloc::Global;
+use lgp_limited::Limited;
+#[cfg(test)]
+use std::alloc::{Allocator, Global};
 #[cfg(test)]
 use std::fmt::Debug;
 #[cfg(test)]
@@ -42,6 +44,26 @@ use std::process::Abort;
 #[cfg(test)]
 fn expect_eq<T: PartialEq + Debug + Drop>(rt: &impl Abort, seen: T, wanted: T) {
     assert_eq!(rt; seen, wanted);
+}
+
+/// How many growths a call has, each of which is refused in turn. It has to say so, by `None`, where one is refused, and to answer what
+/// is right where none is; else the number is 0.
+#[cfg(test)]
+fn in_turn<B: Allocator, F: FnMut() -> Option<bool>>(limited: &Limited<B>, mut is_right: F) -> u64
+    requires { F.IsAlwaysCallable is_right }
+{
+    for nth in 0..200 {
+        limited.refuse(nth + 1);
+        match (is_right(), limited.was_refused()) {
+            (None, true) => {}
+            (Some(true), false) => {
+                limited.refuse(0);
+                return nth;
+            }
+            _ => return 0,
+        }
+    }
+    0
 }
 
 /// Appends texts, each a given number of times; false without memory.

@@ -1,9 +1,8 @@
-//! Growths refused in turn, over the global allocator and over a small heap.
+//! Growths refused in turn.
 
 use crate::expect_eq;
 use lgp_limited::Limited;
-use linked_list_allocator::LocalHeap;
-use std::alloc::{Allocator, Global};
+use std::alloc::Allocator;
 use std::mem::forget;
 
 /// Whether a vector of eight bytes is refused.
@@ -79,30 +78,16 @@ fn grows<B: Allocator>(limited: &Limited<B>, nth: u64) -> ([bool; 2], bool, [boo
     (first, limited.was_refused(), filled(&mut numbers))
 }
 
-/// The capacity of a vector after it was to let go of what it does not need.
-fn shrunk<A: Allocator>(numbers: &mut Vec<u8, A>) -> usize {
-    numbers.shrink_to_fit();
-    numbers.capacity()
-}
-
-/// That of a vector with one number: where it is refused, and where not.
-fn shrink<B: Allocator>(
-    limited: &Limited<B>,
-    numbers: &mut Vec<u8, &Limited<B>>,
-) -> Option<[usize; 2]> {
-    if numbers.push(7).is_err() {
-        return None;
-    }
-    limited.refuse(1);
-    Some([shrunk(numbers), shrunk(numbers)])
-}
-
-/// The same of a vector with room for 64 bytes.
+/// The capacities of a vector with a number and room for 64 after it was to let go of what it does not need: where that is refused,
+/// and where not.
 fn capacities<B: Allocator>(limited: &Limited<B>) -> Option<[usize; 2]> {
-    match Vec::with_capacity(limited, 64) {
-        Ok(mut numbers) => shrink(limited, &mut numbers),
-        Err(_) => None,
-    }
+    let mut numbers = Vec::with_capacity(limited, 64).ok()?;
+    numbers.push(7u8).ok()?;
+    limited.refuse(1);
+    numbers.shrink_to_fit();
+    let kept = numbers.capacity();
+    numbers.shrink_to_fit();
+    Some([kept, numbers.capacity()])
 }
 
 /// Where another growth is refused, how vectors grow whose first, second and hundredth growth is refused, and the capacities of
@@ -113,13 +98,6 @@ fn seen<B: Allocator>(limited: &Limited<B>) -> Seen {
     let otherwise = first_otherwise(limited);
     let grown = [grows(limited, 1), grows(limited, 2), grows(limited, 100)];
     (otherwise, grown, capacities(limited))
-}
-
-/// The same over a heap of its own, and how many bytes are used there at last.
-fn seen_over_heap(global: Global) -> Option<(Seen, usize)> {
-    let heap = LocalHeap::new(global, 4096).ok()?;
-    let seen = seen(&Limited::new(&heap));
-    Some((seen, heap.used()))
 }
 
 /// At least two growths of the vector are refused in turn, each with numbers left, and none of the later ones. A smaller block is a
@@ -135,34 +113,19 @@ fn the_named_growth_is_refused_and_no_other(rt: HostRuntime) {
         ],
         Some([64, 1]),
     );
-    let over_global = seen(&Limited::new(rt.alloc()));
-    expect_eq(
-        &rt,
-        [Some((over_global, 0)), seen_over_heap(rt.alloc())],
-        [Some((wanted, 0)); 2],
-    );
+    let limited = Limited::new(rt.alloc());
+    let seen = seen(&limited);
+    expect_eq(&rt, (seen, limited.blocks_out()), (wanted, 0));
 }
 
-/// How many blocks are out beside a vector, when it has grown, and when another one was refused.
-fn grow<B: Allocator>(
-    limited: &Limited<B>,
-    numbers: &mut Vec<u8, &Limited<B>>,
-) -> Option<[u64; 3]> {
+/// How many blocks are out beside a vector with room for 8 bytes, when it has grown, and when another one was refused.
+fn grown<B: Allocator>(limited: &Limited<B>) -> Option<[u64; 3]> {
+    let mut numbers: Vec<u8, _> = Vec::with_capacity(limited, 8).ok()?;
     let made = limited.blocks_out();
-    if numbers.extend_from_slice(&[7; 100]).is_err() {
-        return None;
-    }
+    numbers.extend_from_slice(&[7; 100]).ok()?;
     let grown = limited.blocks_out();
     limited.refuse(1);
     is_refused(limited).then_some([made, grown, limited.blocks_out()])
-}
-
-/// The same of a vector with room for 8 bytes.
-fn grown<B: Allocator>(limited: &Limited<B>) -> Option<[u64; 3]> {
-    match Vec::with_capacity(limited, 8) {
-        Ok(mut numbers) => grow(limited, &mut numbers),
-        Err(_) => None,
-    }
 }
 
 /// Forgets a vector, and tells how many blocks are out then.

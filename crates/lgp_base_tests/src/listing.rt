@@ -25,18 +25,6 @@ fn is_written(digits: &[u8], text: &[u8]) -> bool {
     }
 }
 
-/// The place of the first row whose word is written otherwise, or how many rows there are.
-fn first_written_otherwise(rows: &[(&[u8], &[u8])]) -> usize {
-    let mut place = 0usize;
-    for (digits, text) in rows {
-        if !is_written(digits, text) {
-            return place;
-        }
-        place = place.saturating_add(1);
-    }
-    place
-}
-
 static WORDS: &[(&[u8], &[u8])] = &[
     (b"800g3w20", b"-t 6308"),
     (b"000g3w20", b"t 6308"),
@@ -47,7 +35,9 @@ static WORDS: &[(&[u8], &[u8])] = &[
 
 #[test]
 fn words_as_a_source_has_them(rt: HostRuntime) {
-    expect_eq(&rt, first_written_otherwise(WORDS), WORDS.len());
+    for (digits, text) in WORDS {
+        expect_eq(&rt, (*text, is_written(digits, text)), (*text, true));
+    }
 }
 
 /// Whether a text is this one.
@@ -63,12 +53,6 @@ fn has_listing(alloc: Global, source: &[u8], wanted: &[u8]) -> bool {
     is_text(listing(alloc, source), wanted)
 }
 
-#[test]
-fn a_listing_of_five_lines(rt: HostRuntime) {
-    let found = has_listing(rt.alloc(), FIRST_PROGRAM, FIRST_LISTING);
-    expect_eq(&rt, found, true);
-}
-
 /// Whether a source has this listing by its image.
 fn has_image_listing(alloc: Global, source: &[u8], wanted: &[u8]) -> bool {
     match assemble(alloc, source) {
@@ -78,9 +62,12 @@ fn has_image_listing(alloc: Global, source: &[u8], wanted: &[u8]) -> bool {
 }
 
 #[test]
-fn the_same_listing_by_the_image(rt: HostRuntime) {
-    let found = has_image_listing(rt.alloc(), FIRST_PROGRAM, FIRST_LISTING);
-    expect_eq(&rt, found, true);
+fn a_listing_of_five_lines_by_source_and_by_image(rt: HostRuntime) {
+    let found = [
+        has_listing(rt.alloc(), FIRST_PROGRAM, FIRST_LISTING),
+        has_image_listing(rt.alloc(), FIRST_PROGRAM, FIRST_LISTING),
+    ];
+    expect_eq(&rt, found, [true; 2]);
 }
 
 /// Whether a source has no listing, for these faults.

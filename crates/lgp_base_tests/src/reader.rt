@@ -167,17 +167,13 @@ fn answer<'a, B: Allocator>(
 type Row = (Deed, Answer, Shown);
 
 /// A new reader, with one tape after another.
-static ROWS: [Row; 40] = [
+static ROWS: [Row; 34] = [
     (Deed::Pass, NO, (false, 0, 0)),
-    (Deed::Start, DONE, (true, 0, 0)),
     // It is on or off, and codes pass in order.
     (Deed::Mount(b"12'"), DONE, (false, 0, 3)),
     (Deed::Start, DONE, (true, 0, 3)),
     (Deed::Stop, DONE, (false, 0, 3)),
     (Deed::Pass, (0, 6, true), (false, 1, 2)),
-    (Deed::Pass, (0, 10, true), (false, 2, 1)),
-    (Deed::Pass, (0, 32, true), (false, 3, 0)),
-    (Deed::Pass, NO, (false, 3, 0)),
     // An input ends at the stop, and passes nothing where the reader is off.
     (Deed::Mount(b"12[16]3'45"), DONE, (false, 0, 7)),
     (Deed::Input(false, 7), (0, 7, false), (false, 0, 7)),
@@ -185,6 +181,7 @@ static ROWS: [Row; 40] = [
     (Deed::Input(false, 0), (5, 0x123, true), (false, 5, 2)),
     (Deed::Start, DONE, (true, 5, 2)),
     (Deed::Input(false, 0x12), (2, 0x1245, false), (false, 7, 0)),
+    (Deed::Pass, NO, (false, 7, 0)),
     // Six bits of a code enter.
     (Deed::Mount(b"a'"), DONE, (false, 0, 2)),
     (Deed::Start, DONE, (true, 0, 2)),
@@ -212,14 +209,10 @@ static ROWS: [Row; 40] = [
     (Deed::Back(2), DONE, (false, 1, 3)),
     (Deed::Pass, (0, 10, true), (false, 2, 2)),
     (Deed::Copy(0), (0, 32, true), (false, 2, 2)),
-    // A tape takes another's place.
-    (Deed::Mount(b"ab"), DONE, (false, 0, 2)),
     // A tape is set within itself.
-    (Deed::Start, DONE, (true, 0, 2)),
+    (Deed::Start, DONE, (true, 2, 2)),
     (Deed::Set(b"12'3", 3), DONE, (true, 3, 1)),
     (Deed::Pass, (0, 14, true), (true, 4, 0)),
-    (Deed::Pass, NO, (true, 4, 0)),
-    (Deed::Stop, DONE, (false, 4, 0)),
 ];
 
 /// Whether a reader shows this, and has one block of memory where there is a tape.

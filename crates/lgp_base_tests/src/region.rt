@@ -119,18 +119,6 @@ static ASKED: [(usize, Asked, usize); 13] = [
     (48, Asked::Three(1 << 40), 0),
 ];
 
-/// The place of the first row of which another number is met, or how many rows there are.
-fn first_met_otherwise<A: Allocator>(alloc: &A) -> usize {
-    let mut place = 0usize;
-    for (size, asked, wanted) in &ASKED {
-        if met(alloc, *size, asked) != Some(*wanted) {
-            return place;
-        }
-        place = place.saturating_add(1);
-    }
-    place
-}
-
 /// Appends the numbers from 0 to 99 to one vector and those from 100 to 1 to another, in turn; whether there is memory.
 fn push_both(rising: &mut Vec<u16, &Region>, falling: &mut Vec<u16, &Region>) -> bool {
     for number in 0..100_u16 {
@@ -194,25 +182,22 @@ static LASTING: [(usize, Option<usize>); 4] = [
     (4_240, Some(3)),
 ];
 
-/// The place of the first of these sizes of which another number is met, or how many there are.
-fn first_lasting_otherwise<A: Allocator>(alloc: &A) -> usize {
-    let mut place = 0usize;
-    for (size, wanted) in &LASTING {
-        if met_by_lasting(alloc, *size) != *wanted {
-            return place;
-        }
-        place = place.saturating_add(1);
-    }
-    place
-}
-
 #[test]
 fn requests_are_met_by_their_sizes_and_vectors_keep_their_numbers(rt: HostRuntime) {
     let alloc = rt.alloc();
-    let seen = (
-        first_met_otherwise(&alloc),
-        first_lasting_otherwise(&alloc),
-        vectors_keep_their_numbers(&alloc),
-    );
-    expect_eq(&rt, seen, (ASKED.len(), LASTING.len(), true));
+    for (size, asked, wanted) in &ASKED {
+        expect_eq(
+            &rt,
+            (*size, met(&alloc, *size, asked)),
+            (*size, Some(*wanted)),
+        );
+    }
+    for (size, wanted) in &LASTING {
+        expect_eq(
+            &rt,
+            (*size, met_by_lasting(&alloc, *size)),
+            (*size, *wanted),
+        );
+    }
+    expect_eq(&rt, vectors_keep_their_numbers(&alloc), true);
 }

@@ -3,10 +3,8 @@
 ghost use Rattle.std.specs.Prelude.{◌++◌, codes};
 ghost use Rattle.lgp_stream.specs.KeptLine.{kept_of};
 
-use crate::expect_eq;
-use lgp_stream::{
-    Answers, FeedOf, LINE_LIMIT, LineBytes, SinkOf, StreamFault, run_text, write_whole,
-};
+use crate::{expect_eq, text_of};
+use lgp_stream::{Answers, FeedOf, LineBytes, SinkOf, StreamFault, run_text, write_whole};
 use std::alloc::{AllocError, Allocator, Global};
 use std::io::{Read, Write};
 
@@ -57,29 +55,12 @@ fn is_echoed(alloc: Global, text: &[u8], wanted: &[u8], questions: u64) -> bool 
     echoed(alloc, text, &mut replies) == Ok(questions) && replies.as_slice() == wanted
 }
 
-/// The replies that the first text should have that has others.
-fn first_not_echoed(alloc: Global) -> Option<&'static [u8]> {
-    for (text, wanted, questions) in &TEXTS {
-        if !is_echoed(alloc, text, wanted, *questions) {
-            return Some(wanted);
-        }
-    }
-    None
-}
-
 #[test]
 fn each_line_has_its_reply(rt: HostRuntime) {
-    expect_eq(&rt, first_not_echoed(rt.alloc()), None);
-}
-
-/// Appends a part a given number of times; false where memory is refused.
-fn push_times(text: &mut Vec<u8>, part: &[u8], times: usize) -> bool {
-    for _ in 0..times {
-        if text.extend_from_slice(part).is_err() {
-            return false;
-        }
+    for (text, wanted, questions) in &TEXTS {
+        let seen = (*text, is_echoed(rt.alloc(), text, wanted, *questions));
+        expect_eq(&rt, seen, (*text, true));
     }
-    true
 }
 
 /// How many replies to a text begin with a question mark, and how many bytes the replies have; `None` where it is not read whole.
@@ -92,12 +73,12 @@ fn counted(alloc: Global, text: &[u8]) -> Option<(u64, usize)> {
 }
 
 /// The same of a text of a given number of lines of fifteen bytes, after a line of a given length; `None` without memory.
-fn long_echoed(alloc: Global, first: usize, lines: usize) -> Option<(u64, usize)> {
-    let mut text = Vec::new(alloc);
-    let is_long = push_times(&mut text, b"x", first)
-        && push_times(&mut text, b"\n", 1)
-        && push_times(&mut text, b"0123456789abcde\n", lines);
-    if is_long { counted(alloc, &text) } else { None }
+fn long_echoed(alloc: Global, first: u32, lines: u32) -> Option<(u64, usize)> {
+    let pieces: [(&[u8], u32); 3] = [(b"x", first), (b"\n", 1), (b"0123456789abcde\n", lines)];
+    match text_of(alloc, &pieces) {
+        Some(text) => counted(alloc, &text),
+        None => None,
+    }
 }
 
 #[test]
@@ -105,8 +86,8 @@ fn of_a_line_4096_bytes_are_kept(rt: HostRuntime) {
     expect_eq(
         &rt,
         [
-            long_echoed(rt.alloc(), LINE_LIMIT, 1),
-            long_echoed(rt.alloc(), LINE_LIMIT + 1, 1),
+            long_echoed(rt.alloc(), 4096, 1),
+            long_echoed(rt.alloc(), 4097, 1),
             long_echoed(rt.alloc(), 10_000, 4_096),
         ],
         [

@@ -4,75 +4,49 @@ use crate::expect_eq;
 use lgp_table::{Cause, Ending, Mode, Panel, Status, Switches};
 use lgp_word::{Address, Word};
 
-/// How each mode goes on, and its status at the end of a tape.
-fn modes() -> [(Status, Status); 3] {
-    [
-        (Mode::Normal.resume(), Mode::Normal.status_at_end()),
-        (
-            Mode::OneOperation.resume(),
-            Mode::OneOperation.status_at_end(),
-        ),
-        (Mode::Manual.resume(), Mode::Manual.status_at_end()),
-    ]
-}
+const OPERATOR: Status = Status::Halted(Cause::Operator);
+
+/// Modes, how each goes on, and its status at the end of a tape.
+static MODES: [(Mode, Status, Status); 3] = [
+    (Mode::Normal, Status::Going, Status::Waiting),
+    (
+        Mode::OneOperation,
+        Status::Halted(Cause::Step),
+        Status::Waiting,
+    ),
+    (Mode::Manual, OPERATOR, OPERATOR),
+];
+
+/// Statuses: whether each is halted, waits, and is at rest.
+static STATUSES: [(Status, [bool; 3]); 5] = [
+    (Status::Halted(Cause::Stop), [true, false, true]),
+    (Status::Waiting, [false, true, true]),
+    (Status::Going, [false; 3]),
+    (Status::Executing, [false; 3]),
+    (Status::Reading, [false; 3]),
+];
+
+/// How orders end, and the status then.
+static ENDINGS: [(Ending, Status); 4] = [
+    (Ending::Plain, Status::Going),
+    (Ending::Stopped, Status::Halted(Cause::Stop)),
+    (Ending::Overflowed, Status::Halted(Cause::Overflow)),
+    (Ending::Unfinished, Status::Waiting),
+];
 
 #[test]
-fn modes_say_how_it_goes_on(rt: HostRuntime) {
-    let operator = Status::Halted(Cause::Operator);
-    expect_eq(
-        &rt,
-        modes(),
-        [
-            (Status::Going, Status::Waiting),
-            (Status::Halted(Cause::Step), Status::Waiting),
-            (operator, operator),
-        ],
-    );
-}
-
-/// Whether a status is halted, waits, and is at rest.
-fn kinds(status: Status) -> (bool, bool, bool) {
-    (status.is_halted(), status.is_waiting(), status.is_at_rest())
-}
-
-#[test]
-fn a_machine_is_at_rest_or_at_work(rt: HostRuntime) {
-    expect_eq(
-        &rt,
-        [
-            kinds(Status::Halted(Cause::Stop)),
-            kinds(Status::Waiting),
-            kinds(Status::Going),
-            kinds(Status::Executing),
-            kinds(Status::Reading),
-        ],
-        [
-            (true, false, true),
-            (false, true, true),
-            (false, false, false),
-            (false, false, false),
-            (false, false, false),
-        ],
-    );
-}
-
-#[test]
-fn orders_end_in_four_ways(rt: HostRuntime) {
-    expect_eq(
-        &rt,
-        [
-            Ending::Plain.status_after(Status::Going),
-            Ending::Stopped.status_after(Status::Going),
-            Ending::Overflowed.status_after(Status::Going),
-            Ending::Unfinished.status_after(Status::Going),
-        ],
-        [
-            Status::Going,
-            Status::Halted(Cause::Stop),
-            Status::Halted(Cause::Overflow),
-            Status::Waiting,
-        ],
-    );
+fn modes_statuses_and_endings(rt: HostRuntime) {
+    for (mode, goes_on, at_end) in &MODES {
+        let seen = (mode.resume(), mode.status_at_end());
+        expect_eq(&rt, seen, (*goes_on, *at_end));
+    }
+    for (status, wanted) in &STATUSES {
+        let seen = [status.is_halted(), status.is_waiting(), status.is_at_rest()];
+        expect_eq(&rt, (*status, seen), (*status, *wanted));
+    }
+    for (ending, wanted) in &ENDINGS {
+        expect_eq(&rt, ending.status_after(Status::Going), *wanted);
+    }
 }
 
 #[test]
@@ -84,7 +58,7 @@ fn the_opening_registers(rt: HostRuntime) {
             counter: Address::default(),
             accumulator: 0,
             register: Word::default(),
-            status: Status::Halted(Cause::Operator),
+            status: OPERATOR,
             mode: Mode::Normal,
             switches: Switches::default(),
         },

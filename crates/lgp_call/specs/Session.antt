@@ -21,7 +21,7 @@ abbrev pub has_line_feed : List ℕ → Bool
 has_line_feed line = list_any is_line_feed line
 
 unfoldable pub more_than_a_line : List ℕ
-more_than_a_line = codes "? 1 Form: these are several lines, give them one by one\n"
+more_than_a_line = codes "? 1 Form: these are several lines; give them one at a time\n"
 
 -- after a line
 abbrev pub after_line : SessionState → List ℕ → SessionState

@@ -14,7 +14,7 @@ use std::alloc::{AllocError, Allocator};
 use std::marker::Model;
 
 /// The refusal of bytes with a line feed among them.
-const MORE_THAN_A_LINE: &[u8] = b"? 1 Form: these are several lines, give them one by one\n";
+const MORE_THAN_A_LINE: &[u8] = b"? 1 Form: these are several lines; give them one at a time\n";
 
 /// Whether a line feed is among the bytes of a line.
 fn has_line_feed(line: &[u8]) -> bool

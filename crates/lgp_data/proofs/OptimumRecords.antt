@@ -16,7 +16,7 @@ unfolding section_in
 same_section form names one other wanted a = ap (gains_in form names wanted) (same_ranking one other wanted 10 a)
 
 records_of : Form → ℕ → ℕ → ℕ → List ℕ → List ℕ → List ℕ → List ℕ
-records_of form orders took together free performed named = record_in form true (totals_record orders took together) ++ (free ++ (performed ++ named))
+records_of form orders took together free performed named = record_in form (totals_record orders took together) ++ (free ++ (performed ++ named))
 
 same_optimum : (form : Form) (names : List (List ℕ × ℕ)) (orders : ℕ) (one other : Moves) → Agrees one other → optimum_in form names orders one ≡ optimum_in form names orders other
 unfolding optimum_in records_of
@@ -30,18 +30,18 @@ same_optimum form names orders one other a =
     ∙ ap (λ (t : List ℕ). records_of form orders other.took (together other) (section other freedoms.Free) (section other freedoms.Performed) t) (same_section form names one other freedoms.NamedByChanged a))))
 
 same_word : (form : Form) (names : List (List ℕ × ℕ)) (orders : ℕ) (one other : Moves) (word : ℕ) → Agrees one other → word < 4096
-    → record_in form true (word_moves_record names orders one word) ≡ record_in form true (word_moves_record names orders other word)
+    → record_in form (word_moves_record names orders one word) ≡ record_in form (word_moves_record names orders other word)
 unfolding word_moves_record
 same_word form names orders one other word a on_drum =
-    ap (λ (t : ℕ). record_in form true (numbers_record names orders t word (one.free word) (best_of one word) (times_of one word))) a.took
-    ∙ (ap (λ (f : Freedom). record_in form true (numbers_record names orders other.took word f (best_of one word) (times_of one word))) (a.free word on_drum)
-    ∙ (ap (λ (b : Best). record_in form true (numbers_record names orders other.took word (other.free word) b (times_of one word))) (same_best one other word a on_drum)
-    ∙ ap (λ (t : List ℕ). record_in form true (numbers_record names orders other.took word (other.free word) (best_of other word) t)) (same_times one other word a on_drum)))
+    ap (λ (t : ℕ). record_in form (numbers_record names orders t word (one.free word) (best_of one word) (times_of one word))) a.took
+    ∙ (ap (λ (f : Freedom). record_in form (numbers_record names orders other.took word f (best_of one word) (times_of one word))) (a.free word on_drum)
+    ∙ (ap (λ (b : Best). record_in form (numbers_record names orders other.took word (other.free word) b (times_of one word))) (same_best one other word a on_drum)
+    ∙ ap (λ (t : List ℕ). record_in form (numbers_record names orders other.took word (other.free word) (best_of other word) t)) (same_times one other word a on_drum)))
 
 pub optimum_records : (form : Form) (names : List (List ℕ × ℕ)) (orders : ℕ) (kept : Kept) (s : State) (count : ℕ) → IsOptimumOf kept s count
     → optimum_in form names orders (moves_in kept) ≡ optimum_in form names orders (moves_of s count)
 optimum_records form names orders kept s count h = same_optimum form names orders (moves_in kept) (moves_of s count) (agrees kept s count h)
 
 pub word_records : (form : Form) (names : List (List ℕ × ℕ)) (orders : ℕ) (kept : Kept) (s : State) (count word : ℕ) → IsOptimumOf kept s count → word < 4096
-    → record_in form true (word_moves_record names orders (moves_in kept) word) ≡ record_in form true (word_moves_record names orders (moves_of s count) word)
+    → record_in form (word_moves_record names orders (moves_in kept) word) ≡ record_in form (word_moves_record names orders (moves_of s count) word)
 word_records form names orders kept s count word h on_drum = same_word form names orders (moves_in kept) (moves_of s count) word (agrees kept s count h) on_drum

@@ -6,3 +6,5 @@ pub mod WhyData
 pub mod SourceData
 pub mod CostData
 pub mod OptimumData
+pub mod AccountData
+pub mod ProfileData

@@ -1,6 +1,6 @@
 -- Part of the public promise: where words would have cost less, as records: those of a run with most
 -- to gain, and what its orders would have taken with one word at each sector.
-use Rattle.std.specs.Prelude.{ℕ, ◌++◌, true, false, List, [], ◌∷◌, codes, sum}
+use Rattle.std.specs.Prelude.{ℕ, ◌++◌, List, [], ◌∷◌, codes, sum}
 use Rattle.lgp_word.specs.Address.{sector_of}
 use Rattle.lgp_word.specs.Digits.{address_digits}
 use Rattle.lgp_trace.specs.Gains.{Moves, best_of, gains_of, ranking, times_of}
@@ -22,11 +22,11 @@ freedom_word freedoms.NamedByChanged = codes "changed"
 
 abbrev pub freedom_sentence : Freedom → List ℕ
 freedom_sentence freedoms.Free = codes "it may be moved"
-freedom_sentence freedoms.Unnamed = codes "no order named it: wherever it is, they take as long"
+freedom_sentence freedoms.Unnamed = codes "no order named it, so its sector makes no difference"
 freedom_sentence freedoms.Performed =
-    codes "it is not to be moved, since it was performed as an order"
+    codes "it should not be moved, because it was performed as an order"
 freedom_sentence freedoms.NamedByChanged =
-    codes "it is not to be moved, since a changed order named it, or one in the register alone"
+    codes "it should not be moved, because a changed order or one only in the register named it"
 
 -- ---- the words with most to gain
 
@@ -52,7 +52,7 @@ gain_record names freedom gain =
 unfoldable pub gains_in : Form → List (List ℕ × ℕ) → Freedom → List Gain → List ℕ
 gains_in form names freedom [] = []
 gains_in form names freedom (gain ∷ more) =
-    record_in form false (gain_record names freedom gain) ++ gains_in form names freedom more
+    record_in form (gain_record names freedom gain) ++ gains_in form names freedom more
 
 -- the ten words of a freedom with most to gain
 unfoldable pub section_in : Form → List (List ℕ × ℕ) → Moves → Freedom → List ℕ
@@ -61,7 +61,7 @@ section_in form names moves freedom = gains_in form names freedom (ranking moves
 -- of a given number of orders: the words that may be moved, and then those that may not
 unfoldable pub optimum_in : Form → List (List ℕ × ℕ) → ℕ → Moves → List ℕ
 optimum_in form names orders moves =
-    record_in form true (totals_record orders moves.took (sum (gains_of moves freedoms.Free)))
+    record_in form (totals_record orders moves.took (sum (gains_of moves freedoms.Free)))
     ++ (section_in form names moves freedoms.Free
     ++ (section_in form names moves freedoms.Performed
     ++ section_in form names moves freedoms.NamedByChanged))

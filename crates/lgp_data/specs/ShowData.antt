@@ -1,5 +1,5 @@
 -- Part of the public promise: words, labels, rules, printed codes and the tape as records.
-use Rattle.std.specs.Prelude.{ℕ, zero, suc, ◌+◌, ◌++◌, ◌==◌, Bool, true, false, if◌then◌else◌}
+use Rattle.std.specs.Prelude.{ℕ, zero, suc, ◌+◌, ◌++◌, Bool, if◌then◌else◌}
 use Rattle.std.specs.Prelude.{nat_lt, is_some, List, [], ◌∷◌, codes, drop, Some}
 use Rattle.std.specs.Option.{option_map_or}
 use Rattle.lgp_word.specs.Digits.{address_digits, digits_of}
@@ -51,7 +51,7 @@ unfoldable pub shown_in : Form → List (List ℕ × ℕ) → Debugging → ℕ 
 shown_in form names d address zero = []
 shown_in form names d address (suc count) =
     shown_in form names d address count
-    ++ record_in form (count == 0) (shown_of names d (address + count))
+    ++ record_in form (shown_of names d (address + count))
 
 -- ---- labels
 
@@ -65,15 +65,14 @@ label_record declared symbol =
     ∷ field (codes "line") (option_map_or Number (line_of_name declared (Some symbol.0)) Nothing)
     ∷ []
 
-unfoldable pub labels_listed : Form → Bool → NameList → List (List ℕ × ℕ) → List ℕ
-labels_listed form first declared [] = []
-labels_listed form first declared (symbol ∷ more) =
-    record_in form first (label_record declared symbol) ++ labels_listed form false declared more
+unfoldable pub labels_listed : Form → NameList → List (List ℕ × ℕ) → List ℕ
+labels_listed form declared [] = []
+labels_listed form declared (symbol ∷ more) =
+    record_in form (label_record declared symbol) ++ labels_listed form declared more
 
 -- the names of a source
 unfoldable pub labels_in : Form → List ℕ → List (List ℕ × ℕ) → List ℕ
-labels_in form source symbols =
-    labels_listed form true (declared_in (all_lines source)) symbols
+labels_in form source symbols = labels_listed form (declared_in (all_lines source)) symbols
 
 -- ---- rules
 
@@ -98,7 +97,7 @@ rule_record names number rule =
 unfoldable pub rules_in : Form → List (List ℕ × ℕ) → ℕ → List Rule → List ℕ
 rules_in form names number [] = []
 rules_in form names number (rule ∷ more) =
-    record_in form (number == 0) (rule_record names number rule)
+    record_in form (rule_record names number rule)
     ++ rules_in form names (number + 1) more
 
 -- ---- what was printed
@@ -116,14 +115,14 @@ code_record number code =
     ∷ []
 
 -- codes, before whose first a given number were printed
-unfoldable pub codes_in : Form → Bool → ℕ → List ℕ → List ℕ
-codes_in form first number [] = []
-codes_in form first number (code ∷ more) =
-    record_in form first (code_record number code) ++ codes_in form false (number + 1) more
+unfoldable pub codes_in : Form → ℕ → List ℕ → List ℕ
+codes_in form number [] = []
+codes_in form number (code ∷ more) =
+    record_in form (code_record number code) ++ codes_in form (number + 1) more
 
 -- those after the first ones
 unfoldable pub printed_in : Form → ℕ → List ℕ → List ℕ
-printed_in form from printed = codes_in form true from (drop from printed)
+printed_in form from printed = codes_in form from (drop from printed)
 
 -- ---- the tape
 

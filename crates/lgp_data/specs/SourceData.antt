@@ -80,7 +80,7 @@ next_record number (line ∷ lines) known = line_record line known
 unfoldable pub source_lines_in : Form → ℕ → List SourceLine → List LineSurvey → List ℕ
 source_lines_in form number lines [] = []
 source_lines_in form number lines (known ∷ more) =
-    record_in form (number == 1) (next_record number lines known)
+    record_in form (next_record number lines known)
     ++ source_lines_in form (number + 1) (drop 1 lines) more
 
 -- a source: its lines, and the one that is missing where it has no end line

@@ -1,6 +1,8 @@
 -- Part of the public promise: the state of a machine at a boundary as a record: what the panel shows,
--- what is live, what lets the machine go on, and how many steps are kept.
-use Rattle.std.specs.Prelude.{ℕ, ◌++◌, Bool, if◌then◌else◌, List, [], ◌∷◌, codes, length}
+-- what is live, what lets the machine go on, which rule holds here, and how many steps are kept.
+use Rattle.std.specs.Prelude.{ℕ, ◌++◌, ◌==◌, Bool, false, if◌then◌else◌, Option, Some, None}
+use Rattle.std.specs.Prelude.{List, [], ◌∷◌, codes, length, option_map, position}
+use Rattle.std.specs.Option.{option_map_or}
 use Rattle.lgp_word.specs.Digits.{address_digits, digits_of}
 use Rattle.lgp_machine.specs.Look.{look_of}
 use Rattle.lgp_machine.specs.declared.look.Look.{Look}
@@ -10,7 +12,13 @@ use Rattle.lgp_table.specs.declared.panel.Mode.TheVariants.{Normal, OneOperation
 use Rattle.lgp_table.specs.declared.panel.Panel.{Panel}
 use Rattle.lgp_text.specs.PanelWords.{mode_text, on_text, status_text}
 use Rattle.lgp_debugger.specs.Debugging.{Debugging}
-use Rattle.lgp_fields.specs.Plain.{PlainField, field, Number, Text, YesNo}
+use Rattle.lgp_history.specs.Hits.{goes_at}
+use Rattle.lgp_history.specs.Origins.{latest_change}
+use Rattle.lgp_history.specs.declared.origin.Changer.{Changer}
+use Rattle.lgp_history.specs.declared.origin.Changer.TheVariants.{Order}
+use Rattle.lgp_history.specs.declared.rule.Rule.{Rule}
+use Rattle.lgp_history.specs.declared.rule.Rule.TheVariants.{At, Changed}
+use Rattle.lgp_fields.specs.Plain.{PlainField, field, Nothing, Number, Text, YesNo}
 use Rattle.lgp_data.specs.Ways.{state_sentence, way_kind, way_sentence}
 use Rattle.lgp_data.specs.Words.{bits_order, name_of, whole_number, word_order}
 
@@ -47,10 +55,30 @@ panel_fields look left =
     ∷ field (codes "clock") (Number look.clock)
     ∷ []
 
--- which buttons and keys would do something, what the machine is doing, what lets it go on, and how
--- many steps are kept
-unfoldable pub live_fields : Panel → ℕ → List PlainField
-live_fields panel kept =
+-- ---- the rule that holds here
+
+-- whether the last order changed a word, by where the word came from
+abbrev pub is_by_last : Option Changer → Bool
+is_by_last (Some (Order order)) = order.orders_back == 1
+is_by_last changer = false
+
+-- whether a run stops here by a rule: the machine is going at its address, or the last order changed
+-- its word
+abbrev pub holds_here : Debugging → Rule → Bool
+holds_here d (At address) = goes_at d.state address
+holds_here d (Changed address) =
+    is_by_last (option_map (λ origin. origin.changer) (latest_change address d.steps))
+
+-- the number of the first such rule
+abbrev pub rule_here : Debugging → Option ℕ
+rule_here d = position (holds_here d) d.rules
+
+-- ---- what is live
+
+-- which buttons and keys would do something, what the machine is doing, what lets it go on, the rule
+-- that holds here, and how many steps are kept
+unfoldable pub live_fields : Panel → Option ℕ → ℕ → List PlainField
+live_fields panel rule kept =
     field (codes "live-normal") (YesNo (is_live panel (actions.Mode Normal)))
     ∷ field (codes "live-oneop") (YesNo (is_live panel (actions.Mode OneOperation)))
     ∷ field (codes "live-manual") (YesNo (is_live panel (actions.Mode Manual)))
@@ -65,11 +93,20 @@ live_fields panel kept =
     ∷ field (codes "way") (Text (way_kind panel.status panel.mode))
     ∷ field (codes "state-sentence") (Text (state_sentence panel.status))
     ∷ field (codes "way-sentence") (Text (way_sentence panel.status panel.mode))
+    ∷ field (codes "rule") (option_map_or Number rule Nothing)
     ∷ field (codes "kept") (Number kept)
     ∷ []
+
+-- what the panel shows: the registers by their digits, and all else
+unfoldable pub panel_record : Look → ℕ → List PlainField
+panel_record look left =
+    field (codes "counter") (Text (address_digits look.counter))
+    ∷ field (codes "accumulator") (Text (digits_of look.accumulator))
+    ∷ field (codes "register") (Text (digits_of look.register))
+    ∷ panel_fields look left
 
 unfoldable pub state_record : List (List ℕ × ℕ) → Debugging → List PlainField
 state_record names d =
     register_fields names (look_of d.state)
     ++ (panel_fields (look_of d.state) (length d.state.core.tape.left)
-    ++ live_fields d.state.core.panel (length d.steps))
+    ++ live_fields d.state.core.panel (rule_here d) (length d.steps))

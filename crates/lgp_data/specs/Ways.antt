@@ -17,11 +17,11 @@ way_kind (Halted cause) mode = codes "start"
 way_kind status mode = codes "orders"
 
 unfoldable pub way_sentence : Status → Mode → List ℕ
-way_sentence Waiting mode = codes "press read starts the tape, press compute ends the input"
-way_sentence (Halted cause) Normal = codes "press start continues"
-way_sentence (Halted cause) OneOperation = codes "press start performs one order"
-way_sentence (Halted cause) Manual = codes "press normal, then press start continues"
-way_sentence status mode = codes "run continues, press manual halts it"
+way_sentence Waiting mode = codes "press read to start the tape, or press compute to end the input"
+way_sentence (Halted cause) Normal = codes "press start to continue"
+way_sentence (Halted cause) OneOperation = codes "press start to perform one order"
+way_sentence (Halted cause) Manual = codes "press normal and then press start to continue"
+way_sentence status mode = codes "use run to continue, or press manual to halt it"
 
 -- what halted the machine
 abbrev pub halt_sentence : Cause → List ℕ

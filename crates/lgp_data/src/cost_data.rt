@@ -124,7 +124,7 @@ pub fn push_cost_data<H: History<B>, A: Allocator, B: Allocator>(
     place: Address,
 ) -> Result<(), AllocError>
     ensures { OnOk result (text.new.items ≡ text.old.items
-        ++ record_in form true (cost_record names.now debugger.now.state place)) }
+        ++ record_in form (cost_record names.now debugger.now.state place)) }
 {
     let clock = debugger.look().clock;
     let times = times_at(debugger.machine(), place, clock);
@@ -134,5 +134,5 @@ pub fn push_cost_data<H: History<B>, A: Allocator, B: Allocator>(
     let front = order_fields(names, place, debugger.machine().word(place));
     let middle = phase_fields(&times, sum);
     let back = next_fields(names, next, find);
-    push_joined(text, form, true, &front, &middle, &back)
+    push_joined(text, form, &front, &middle, &back)
 }

@@ -43,19 +43,18 @@ fn line_of<A: Allocator>(declared: &Names<A>, name: &[u8]) -> Value<'static>
 fn push_label<A: Allocator, B: Allocator>(
     text: &mut Vec<u8, A>,
     form: Form,
-    first: bool,
     declared: &Names<B>,
     symbol: &(Name, u16),
 ) -> Result<(), AllocError>
     ensures { OnOk result (text.new.items
-        ≡ text.old.items ++ record_in form first (label_record declared.now symbol.now)) }
+        ≡ text.old.items ++ record_in form (label_record declared.now symbol.now)) }
 {
     let fields: [Field; 3] = [
         (b"name", Value::Text(symbol.0.bytes())),
         (b"place", place_of(symbol.1)),
         (b"line", line_of(declared, symbol.0.bytes())),
     ];
-    push_record(text, form, first, &fields)
+    push_record(text, form, &fields)
 }
 
 /// Appends the records of names, each with its line.
@@ -67,12 +66,10 @@ fn push_listed<A: Allocator, B: Allocator>(
     symbols: &[(Name, u16)],
 ) -> Result<(), AllocError>
     ensures { OnOk result (text.new.items
-        ≡ text.old.items ++ labels_listed form true declared.now symbols.now) }
+        ≡ text.old.items ++ labels_listed form declared.now symbols.now) }
 {
-    let mut first = true;
     for symbol in symbols {
-        push_label(text, form, first, declared, symbol)?;
-        first = false;
+        push_label(text, form, declared, symbol)?;
     }
     Ok(())
 }
@@ -122,7 +119,7 @@ fn push_rule<A: Allocator>(
     rule: &Rule,
 ) -> Result<(), AllocError>
     ensures { OnOk result (text.new.items ≡ text.old.items
-        ++ record_in form (number == 0) (rule_record names.now number rule.now)) }
+        ++ record_in form (rule_record names.now number rule.now)) }
 {
     let address = rule_place(rule);
     let fields: [Field; 4] = [
@@ -131,7 +128,7 @@ fn push_rule<A: Allocator>(
         (b"address", Value::Place(address)),
         (b"label", name_of(names, address.number())),
     ];
-    push_record(text, form, number == 0, &fields)
+    push_record(text, form, &fields)
 }
 
 /// Appends the records of rules.

@@ -36,10 +36,10 @@ fn freedom_sentence(free: Freedom) -> &'static [u8]
 {
     match free {
         Freedom::Free => b"it may be moved",
-        Freedom::Unnamed => b"no order named it: wherever it is, they take as long",
-        Freedom::Performed => b"it is not to be moved, since it was performed as an order",
+        Freedom::Unnamed => b"no order named it, so its sector makes no difference",
+        Freedom::Performed => b"it should not be moved, because it was performed as an order",
         Freedom::NamedByChanged => {
-            b"it is not to be moved, since a changed order named it, or one in the register alone"
+            b"it should not be moved, because a changed order or one only in the register named it"
         }
     }
 }
@@ -52,7 +52,7 @@ fn push_totals<A: Allocator, B: Allocator>(
     optimum: &Optimum<B>,
 ) -> Result<(), AllocError>
     ensures { OnOk result (text.new.items ≡ text.old.items
-        ++ record_in form true (totals_record orders optimum.now.took
+        ++ record_in form (totals_record orders optimum.now.took
         (sum (gains_of (moves_in optimum.now) Freedom.Free)))) }
 {
     let together = optimum.together(Freedom::Free);
@@ -61,7 +61,7 @@ fn push_totals<A: Allocator, B: Allocator>(
         (b"times", Value::Number(optimum.took())),
         (b"together", Value::Wide(&together)),
     ];
-    push_record(text, form, true, &fields)
+    push_record(text, form, &fields)
 }
 
 /// A word with its sector, its best one, and what it saves there.
@@ -91,7 +91,7 @@ fn push_gains<A: Allocator>(
         ≡ text.old.items ++ gains_in form names.now free gains.now) }
 {
     for gain in gains {
-        push_record(text, form, false, &gain_fields(names, free, gain))?;
+        push_record(text, form, &gain_fields(names, free, gain))?;
     }
     Ok(())
 }
@@ -189,12 +189,12 @@ fn push_word_moves<A: Allocator, B: Allocator>(
     word: Address,
 ) -> Result<(), AllocError>
     ensures { OnOk result (text.new.items ≡ text.old.items
-        ++ record_in form true (word_moves_record names.now orders (moves_in optimum.now) word)) }
+        ++ record_in form (word_moves_record names.now orders (moves_in optimum.now) word)) }
 {
     let times = optimum.at(word);
     let (free, best) = (optimum.freedom(word), optimum.best(word));
     let fields = numbers_fields(names, orders, optimum.took(), word, free, &best, &times);
-    push_record(text, form, true, &fields)
+    push_record(text, form, &fields)
 }
 
 /// Appends what a given number of orders would have taken with a word at each sector of its track, and whether it may be moved, as a record in
@@ -208,10 +208,10 @@ pub fn push_word_optimum_data<A: Allocator, B: Allocator>(
     word: Address,
 ) -> Result<(), AllocError>
     ensures exact { OnOk result (text.new.items ≡ text.old.items
-        ++ record_in form true (word_moves_record names.now orders (moves_in optimum.now) word)) }
+        ++ record_in form (word_moves_record names.now orders (moves_in optimum.now) word)) }
     ensures of_run { (s : State) → (count : ℕ) → IsOptimumOf optimum.now s count
         → OnOk result (text.new.items ≡ text.old.items
-        ++ record_in form true (word_moves_record names.now orders (moves_of s count) word)) }
+        ++ record_in form (word_moves_record names.now orders (moves_of s count) word)) }
 {
     push_word_moves(text, form, names, orders, optimum, word)
 }

@@ -4,7 +4,8 @@ ghost use Rattle.std.specs.Prelude.{◌≡◌, ◌++◌, ◌+◌, ◌<◌, ◌�
 ghost use Rattle.lgp_flexo.specs.Code.{sign_at};
 ghost use Rattle.lgp_fields.specs.Printed.{record_in};
 ghost use Rattle.lgp_table.specs.Interleaving.{is_boundary};
-ghost use Rattle.lgp_data.specs.ShowData.{code_record, codes_in, printed_in, tape_record, tape_texts};
+ghost use Rattle.lgp_fields.specs.Seen.{value_seen};
+ghost use Rattle.lgp_data.specs.ShowData.{code_record, codes_in, printed_in, sign_value, tape_record, tape_texts};
 
 use lgp_fields::{Field, Form, Value, push_record};
 use lgp_flexo::{Code, sign_of, write_tape_text};
@@ -21,65 +22,33 @@ fn sign_byte(code: Code) -> Option<u8>
     Some(sign as u32 as u8)
 }
 
-/// Appends the record of a code with a sign.
-#[tactic(auto, unfolding(crate::specs::ShowData::code_record))]
-fn push_sign<A: Allocator>(
-    text: &mut Vec<u8, A>,
-    form: Form,
-    first: bool,
-    number: u64,
-    code: Code,
-    sign: u8,
-) -> Result<(), AllocError>
-    requires { Some sign ≡ sign_at code }
-    ensures { OnOk result (text.new.items
-        ≡ text.old.items ++ record_in form first (code_record number code)) }
+/// The sign of a code, if it has one.
+pub(crate) fn sign_value(code: Code) -> Value<'static>
+    ensures { value_seen result ≡ sign_value code }
 {
-    let sign_text = [sign];
-    let fields: [Field; 3] = [
-        (b"printed", Value::Number(number)),
-        (b"code", Value::Number(u64::from(code.number()))),
-        (b"sign", Value::Text(&sign_text)),
-    ];
-    push_record(text, form, first, &fields)
-}
-
-/// Appends the record of a code that has no sign.
-#[tactic(auto, unfolding(crate::specs::ShowData::code_record))]
-fn push_no_sign<A: Allocator>(
-    text: &mut Vec<u8, A>,
-    form: Form,
-    first: bool,
-    number: u64,
-    code: Code,
-) -> Result<(), AllocError>
-    requires { None ≡ sign_at code }
-    ensures { OnOk result (text.new.items
-        ≡ text.old.items ++ record_in form first (code_record number code)) }
-{
-    let fields: [Field; 3] = [
-        (b"printed", Value::Number(number)),
-        (b"code", Value::Number(u64::from(code.number()))),
-        (b"sign", Value::Nothing),
-    ];
-    push_record(text, form, first, &fields)
+    match sign_byte(code) {
+        Some(sign) => Value::Byte(sign),
+        None => Value::Nothing,
+    }
 }
 
 /// Appends the record of a code.
+#[tactic(auto, unfolding(crate::specs::ShowData::code_record))]
 fn push_code<A: Allocator>(
     text: &mut Vec<u8, A>,
     form: Form,
-    first: bool,
     number: u64,
     code: Code,
 ) -> Result<(), AllocError>
     ensures { OnOk result (text.new.items
-        ≡ text.old.items ++ record_in form first (code_record number code)) }
+        ≡ text.old.items ++ record_in form (code_record number code)) }
 {
-    match sign_byte(code) {
-        Some(sign) => push_sign(text, form, first, number, code, sign),
-        None => push_no_sign(text, form, first, number, code),
-    }
+    let fields: [Field; 3] = [
+        (b"printed", Value::Number(number)),
+        (b"code", Value::Number(u64::from(code.number()))),
+        (b"sign", sign_value(code)),
+    ];
+    push_record(text, form, &fields)
 }
 
 /// Appends the records of codes, before whose first a given number were printed.
@@ -92,13 +61,11 @@ fn push_codes<A: Allocator>(
 ) -> Result<(), AllocError>
     requires { from + length codes.now < 2 ^ 64 }
     ensures { OnOk result (text.new.items
-        ≡ text.old.items ++ codes_in form true from codes.now) }
+        ≡ text.old.items ++ codes_in form from codes.now) }
 {
-    let mut first = true;
     let mut number = from;
     for code in codes {
-        push_code(text, form, first, number, *code)?;
-        first = false;
+        push_code(text, form, number, *code)?;
         number += 1;
     }
     Ok(())
@@ -129,13 +96,13 @@ fn push_tape_texts<'a, A: Allocator>(
     left: &'a [u8],
 ) -> Result<(), AllocError>
     ensures { OnOk result (text.new.items ≡ text.old.items
-        ++ record_in form true (tape_texts passed.now left.now)) }
+        ++ record_in form (tape_texts passed.now left.now)) }
 {
     let fields: [Field; 2] = [
         (b"passed", Value::Text(passed)),
         (b"left", Value::Text(left)),
     ];
-    push_record(text, form, true, &fields)
+    push_record(text, form, &fields)
 }
 
 /// Appends the tape as a record.
@@ -148,7 +115,7 @@ pub fn push_tape_data<A: Allocator + Copy, B: Allocator, C: Allocator>(
 ) -> Result<(), AllocError>
     requires { IsTrue (is_boundary machine.now) }
     ensures { OnOk result (text.new.items
-        ≡ text.old.items ++ record_in form true (tape_record machine.now.state.core.tape)) }
+        ≡ text.old.items ++ record_in form (tape_record machine.now.state.core.tape)) }
 {
     let (Some(passed), Some(left)) = (machine.tape_passed(), machine.tape_left()) else {
         unreachable!();

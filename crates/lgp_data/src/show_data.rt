@@ -51,20 +51,19 @@ fn changed_field(changed: bool) -> [Field<'static>; 1]
 fn push_word<A: Allocator>(
     text: &mut Vec<u8, A>,
     form: Form,
-    first: bool,
     names: &[(Name, u16)],
     address: Address,
     word: Word,
     changed: bool,
 ) -> Result<(), AllocError>
-    ensures { OnOk result (text.new.items ≡ text.old.items ++ record_in form first
+    ensures { OnOk result (text.new.items ≡ text.old.items ++ record_in form
         (shown_record (word_fields names.now address word) (decimal_text (half word)) changed)) }
 {
     let fraction = Fraction::of_word(word).to_decimal();
     let front = word_fields(names, address, word);
     let middle = fraction_field(&fraction);
     let back = changed_field(changed);
-    push_joined(text, form, first, &front, &middle, &back)
+    push_joined(text, form, &front, &middle, &back)
 }
 
 /// Whether a kept step changed the word at an address.
@@ -79,15 +78,14 @@ fn is_changed<H: Origins<B>, B: Allocator>(debugger: &Debugger<H, B>, address: A
 pub fn push_shown<H: Origins<B>, A: Allocator, B: Allocator>(
     text: &mut Vec<u8, A>,
     form: Form,
-    first: bool,
     names: &[(Name, u16)],
     debugger: &Debugger<H, B>,
     address: Address,
 ) -> Result<(), AllocError>
     ensures { OnOk result (text.new.items ≡ text.old.items
-        ++ record_in form first (shown_of names.now debugger.now address)) }
+        ++ record_in form (shown_of names.now debugger.now address)) }
 {
     let word = debugger.machine().word(address);
     let changed = is_changed(debugger, address);
-    push_word(text, form, first, names, address, word, changed)
+    push_word(text, form, names, address, word, changed)
 }

@@ -141,12 +141,12 @@ fn push_next<A: Allocator>(
     known: &LineSurvey,
 ) -> Result<(), AllocError>
     ensures lines { lines.new ≡ drop 1 lines.old }
-    ensures text { OnOk result (text.new.items ≡ text.old.items ++ record_in form (number == 1)
+    ensures text { OnOk result (text.new.items ≡ text.old.items ++ record_in form
         (next_record number lines.old known.now)) }
 {
     match lines.next() {
-        Some(line) => push_record(text, form, number == 1, &line_record(&line, known)),
-        None => push_record(text, form, number == 1, &missing_record(number, known)),
+        Some(line) => push_record(text, form, &line_record(&line, known)),
+        None => push_record(text, form, &missing_record(number, known)),
     }
 }
 

@@ -1,21 +1,26 @@
 //! The state of a machine as a record.
 
-ghost use Rattle.std.specs.Prelude.{◌≡◌, ◌++◌, OnOk, length, true};
+ghost use Rattle.std.specs.Prelude.{◌≡◌, ◌++◌, ◌∷◌, [], OnOk, codes, length, option_map, true};
+ghost use Rattle.std.specs.Option.{option_map_or};
+ghost use Rattle.lgp_word.specs.Digits.{address_digits, digits_of};
+ghost use Rattle.lgp_history.specs.Hits.{goes_at};
+ghost use Rattle.lgp_machine.specs.Look.{look_of};
 ghost use Rattle.lgp_table.specs.Console.{is_live, is_waiting, takes_codes};
-ghost use Rattle.lgp_fields.specs.Plain.{YesNo};
+ghost use Rattle.lgp_fields.specs.Plain.{field, Nothing, Number, Text, YesNo};
 ghost use Rattle.lgp_fields.specs.Printed.{record_in};
 ghost use Rattle.lgp_fields.specs.Seen.{fields_seen, value_seen};
-ghost use Rattle.lgp_data.specs.StateData.{live_fields, panel_fields, position_word, register_fields, state_record};
+ghost use Rattle.lgp_data.specs.StateData.{holds_here, is_by_last, live_fields, panel_fields, panel_record, position_word, register_fields, rule_here, state_record};
 
 use crate::way::{state_sentence, way_kind, way_sentence};
 use crate::words::{bits_order, name_of, whole_number, word_order};
 use lgp_assembler::Name;
 use lgp_debugger::Debugger;
 use lgp_fields::{Field, Form, Value, push_joined};
-use lgp_history::History;
+use lgp_history::{Changer, History, Origin, Origins, Rule};
 use lgp_machine::Look;
 use lgp_table::{Action, Mode, Status};
 use lgp_text::{mode_text, on_text, status_text};
+use lgp_word::Address;
 use std::alloc::{AllocError, Allocator};
 
 /// The position of a switch.
@@ -88,17 +93,70 @@ fn is_live<H: History<B>, B: Allocator>(debugger: &Debugger<H, B>, action: Actio
     Value::YesNo(debugger.is_live(&action))
 }
 
-/// Which buttons and keys would do something, what the machine is doing, what lets it go on, and how many steps are kept.
+/// Whether the last order changed a word, by where the word came from.
+fn is_by_last(origin: &Option<Origin>) -> bool
+    ensures { result ≡ is_by_last (option_map (λ origin. origin.changer) origin.now) }
+{
+    match origin {
+        Some(origin) => match origin.changer {
+            Changer::Order(order) => order.orders_back == 1,
+            Changer::Hand(_) => false,
+        },
+        None => false,
+    }
+}
+
+/// Whether a debugger's machine is going at an address.
+fn goes_at<H: History<B>, B: Allocator>(debugger: &Debugger<H, B>, address: Address) -> bool
+    ensures { result ≡ goes_at debugger.now.state address }
+{
+    let look = debugger.look();
+    matches!(look.status, Status::Going) && look.counter == address
+}
+
+/// Whether a run stops here by a rule.
+fn holds_here<H: Origins<B>, B: Allocator>(debugger: &Debugger<H, B>, rule: &Rule) -> bool
+    ensures { result ≡ holds_here debugger.now rule.now }
+{
+    match rule {
+        Rule::At(address) => goes_at(debugger, *address),
+        Rule::Changed(address) => is_by_last(&debugger.origin(*address)),
+    }
+}
+
+/// The number of the first rule by which a run stops here.
+fn rule_here<H: Origins<B>, B: Allocator>(debugger: &Debugger<H, B>) -> Option<usize>
+    ensures { result ≡ rule_here debugger.now }
+{
+    debugger
+        .rules()
+        .iter()
+        .position(|rule| holds_here(debugger, rule))
+}
+
+/// The number of a rule, if there is one.
+fn rule_value(rule: Option<usize>) -> Value<'static>
+    ensures { value_seen result ≡ option_map_or Number rule Nothing }
+{
+    match rule {
+        Some(number) => Value::Number(number as u64),
+        None => Value::Nothing,
+    }
+}
+
+/// Which buttons and keys would do something, what the machine is doing, what lets it go on, the rule that holds here, and how many
+/// steps are kept.
 #[tactic(auto, unfolding(crate::specs::StateData::live_fields))]
 fn live_fields<H: History<B>, B: Allocator>(
     debugger: &Debugger<H, B>,
     status: Status,
     mode: Mode,
-) -> [Field<'static>; 15]
+    rule: Option<usize>,
+) -> [Field<'static>; 16]
     requires status { status ≡ debugger.now.state.core.panel.status }
     requires mode { mode ≡ debugger.now.state.core.panel.mode }
     ensures { fields_seen result
-        ≡ live_fields debugger.now.state.core.panel (length debugger.now.steps) }
+        ≡ live_fields debugger.now.state.core.panel rule (length debugger.now.steps) }
 {
     [
         (
@@ -124,6 +182,7 @@ fn live_fields<H: History<B>, B: Allocator>(
         (b"way", Value::Text(way_kind(status, mode))),
         (b"state-sentence", Value::Text(state_sentence(status))),
         (b"way-sentence", Value::Text(way_sentence(status, mode))),
+        (b"rule", rule_value(rule)),
         (b"kept", Value::Number(debugger.kept())),
     ]
 }
@@ -140,18 +199,59 @@ fn left_on_tape<H: History<B>, B: Allocator>(debugger: &Debugger<H, B>) -> u64
 
 /// Appends the state of a machine as a record in a form.
 #[tactic(auto, unfolding(crate::specs::StateData::state_record))]
-pub fn push_state_data<H: History<B>, A: Allocator, B: Allocator>(
+pub fn push_state_data<H: Origins<B>, A: Allocator, B: Allocator>(
     text: &mut Vec<u8, A>,
     form: Form,
     names: &[(Name, u16)],
     debugger: &Debugger<H, B>,
 ) -> Result<(), AllocError>
     ensures { OnOk result (text.new.items ≡ text.old.items
-        ++ record_in form true (state_record names.now debugger.now)) }
+        ++ record_in form (state_record names.now debugger.now)) }
 {
     let look = debugger.look();
     let registers = register_fields(names, &look);
     let panel = panel_fields(&look, left_on_tape(debugger));
-    let live = live_fields(debugger, look.status, look.mode);
-    push_joined(text, form, true, &registers, &panel, &live)
+    let live = live_fields(debugger, look.status, look.mode, rule_here(debugger));
+    push_joined(text, form, &registers, &panel, &live)
+}
+
+/// The counter.
+fn counter_field(look: &Look) -> [Field<'static>; 1]
+    ensures { fields_seen result
+        ≡ field (codes "counter") (Text (address_digits look.now.counter)) ∷ [] }
+{
+    [(b"counter", Value::Place(look.counter))]
+}
+
+/// The accumulator and the register by their digits.
+fn digits_fields(look: &Look) -> [Field<'static>; 2]
+    ensures { fields_seen result
+        ≡ field (codes "accumulator") (Text (digits_of look.now.accumulator))
+        ∷ field (codes "register") (Text (digits_of look.now.register)) ∷ [] }
+{
+    [
+        (b"accumulator", Value::Digits(look.accumulator)),
+        (b"register", Value::Digits(look.register.get())),
+    ]
+}
+
+/// Appends what the panel shows as a record in a form.
+#[tactic(auto, unfolding(crate::specs::StateData::panel_record))]
+pub fn push_panel_data<H: History<B>, A: Allocator, B: Allocator>(
+    text: &mut Vec<u8, A>,
+    form: Form,
+    debugger: &Debugger<H, B>,
+) -> Result<(), AllocError>
+    ensures { OnOk result (text.new.items ≡ text.old.items ++ record_in form
+        (panel_record (look_of debugger.now.state) (length debugger.now.state.core.tape.left))) }
+{
+    let look = debugger.look();
+    let panel = panel_fields(&look, left_on_tape(debugger));
+    push_joined(
+        text,
+        form,
+        &counter_field(&look),
+        &digits_fields(&look),
+        &panel,
+    )
 }

@@ -20,15 +20,15 @@ pub(crate) fn way_kind(status: Status, mode: Mode) -> &'static [u8]
 
 /// What lets the machine go on, in words.
 #[tactic(auto, unfolding(crate::specs::Ways::way_sentence))]
-pub(crate) fn way_sentence(status: Status, mode: Mode) -> &'static [u8]
+pub fn way_sentence(status: Status, mode: Mode) -> &'static [u8]
     ensures { result.now ≡ way_sentence status mode }
 {
     match (status, mode) {
-        (Status::Waiting, _) => b"press read starts the tape, press compute ends the input",
-        (Status::Halted(_), Mode::Normal) => b"press start continues",
-        (Status::Halted(_), Mode::OneOperation) => b"press start performs one order",
-        (Status::Halted(_), Mode::Manual) => b"press normal, then press start continues",
-        _ => b"run continues, press manual halts it",
+        (Status::Waiting, _) => b"press read to start the tape, or press compute to end the input",
+        (Status::Halted(_), Mode::Normal) => b"press start to continue",
+        (Status::Halted(_), Mode::OneOperation) => b"press start to perform one order",
+        (Status::Halted(_), Mode::Manual) => b"press normal and then press start to continue",
+        _ => b"use run to continue, or press manual to halt it",
     }
 }
 
@@ -46,7 +46,7 @@ fn halt_sentence(cause: Cause) -> &'static [u8]
 
 /// What the machine is doing.
 #[tactic(auto, unfolding(crate::specs::Ways::state_sentence))]
-pub(crate) fn state_sentence(status: Status) -> &'static [u8]
+pub fn state_sentence(status: Status) -> &'static [u8]
     ensures { result.now ≡ state_sentence status }
 {
     match status {

@@ -19,7 +19,7 @@ use lgp_word::{Address, Word};
 use std::alloc::{AllocError, Allocator};
 
 /// What changed a word.
-fn changer_of(origin: &Option<Origin>) -> Option<Changer>
+pub(crate) fn changer_of(origin: &Option<Origin>) -> Option<Changer>
     ensures { result ≡ option_map (λ origin. origin.changer) origin.now }
 {
     match origin {
@@ -29,7 +29,7 @@ fn changer_of(origin: &Option<Origin>) -> Option<Changer>
 }
 
 /// The word that was there before.
-fn lost_of(origin: &Option<Origin>) -> Option<Word>
+pub(crate) fn lost_of(origin: &Option<Origin>) -> Option<Word>
     ensures { result ≡ option_map (λ origin. origin.lost) origin.now }
 {
     match origin {
@@ -50,7 +50,7 @@ fn kind_of(changer: &Option<Changer>) -> &'static [u8]
 }
 
 /// The order that changed a word.
-fn order_of(changer: &Option<Changer>) -> Option<PastOrder>
+pub(crate) fn order_of(changer: &Option<Changer>) -> Option<PastOrder>
     ensures { result ≡ order_of changer.now }
 {
     match changer {
@@ -60,7 +60,7 @@ fn order_of(changer: &Option<Changer>) -> Option<PastOrder>
 }
 
 /// The clock at which a word was changed.
-fn clock_of(changer: &Option<Changer>) -> Value<'static>
+pub(crate) fn clock_of(changer: &Option<Changer>) -> Value<'static>
     ensures { value_seen result ≡ clock_of changer.now }
 {
     match changer {
@@ -102,7 +102,7 @@ fn past_word(order: &Option<PastOrder>) -> Value<'static>
 }
 
 /// How many orders ago it was performed.
-fn orders_ago(order: &Option<PastOrder>) -> Value<'static>
+pub(crate) fn orders_ago(order: &Option<PastOrder>) -> Value<'static>
     ensures { value_seen result
         ≡ option_map_or (λ past. Number past.orders_back) order.now Nothing }
 {
@@ -113,7 +113,7 @@ fn orders_ago(order: &Option<PastOrder>) -> Value<'static>
 }
 
 /// A word that was lost, by its digits.
-fn lost_digits(lost: &Option<Word>) -> Value<'static>
+pub(crate) fn lost_digits(lost: &Option<Word>) -> Value<'static>
     ensures { value_seen result ≡ option_map_or (λ word. Text (digits_of word)) lost.now Nothing }
 {
     match lost {
@@ -133,7 +133,7 @@ fn lost_order(lost: &Option<Word>) -> Value<'static>
 }
 
 /// The same as a number.
-fn lost_number(lost: &Option<Word>) -> Value<'static>
+pub(crate) fn lost_number(lost: &Option<Word>) -> Value<'static>
     ensures { value_seen result ≡ option_map_or whole_number lost.now Nothing }
 {
     match lost {
@@ -181,12 +181,12 @@ pub fn push_why_data<H: Origins<B>, A: Allocator, B: Allocator>(
     address: Address,
 ) -> Result<(), AllocError>
     ensures { OnOk result (text.new.items ≡ text.old.items
-        ++ record_in form true (why_of names.now debugger.now address)) }
+        ++ record_in form (why_of names.now debugger.now address)) }
 {
     let word = debugger.machine().word(address);
     let origin = debugger.origin(address);
     let front = word_fields(names, address, word);
     let changer = changer_fields(names, &changer_of(&origin));
     let lost = lost_fields(&lost_of(&origin));
-    push_joined(text, form, true, &front, &changer, &lost)
+    push_joined(text, form, &front, &changer, &lost)
 }

@@ -1,9 +1,9 @@
 //! Words and names as the values of fields.
 
-ghost use Rattle.std.specs.Prelude.{◌≡◌, ◌-◌, ◌/◌, ◌^◌, ◌&&◌, if◌then◌else◌};
+ghost use Rattle.std.specs.Prelude.{◌≡◌, ◌-◌, ◌/◌, ◌^◌, ◌&&◌, [], if◌then◌else◌};
 ghost use Rattle.lgp_word.specs.Order.{op_at, sign_of, takes_minus};
 ghost use Rattle.lgp_fields.specs.Seen.{value_seen};
-ghost use Rattle.lgp_data.specs.Words.{bits_order, name_of, performed_order, place_value, whole_number, word_order};
+ghost use Rattle.lgp_data.specs.Words.{bits_order, label_at, labelled_order, labelled_place, name_of, performed_order, place_value, refers, whole_number, word_order};
 
 use lgp_assembler::Name;
 use lgp_fields::Value;
@@ -71,6 +71,46 @@ pub(crate) fn name_of(names: &[(Name, u16)], value: u16) -> Value<'_>
         }
     }
     Value::Nothing
+}
+
+/// The same as a label, which is empty where no name has the value.
+#[tactic(auto, unfolding(crate::specs::Words::label_at))]
+fn label_at(names: &[(Name, u16)], value: u16) -> &[u8]
+    ensures { result.now ≡ label_at names.now value }
+{
+    for name in names {
+        if name.1 == value {
+            return name.0.bytes();
+        }
+    }
+    b""
+}
+
+/// An address with its label.
+pub(crate) fn labelled_place(names: &[(Name, u16)], address: Address) -> Value<'_>
+    ensures { value_seen result ≡ labelled_place names.now address }
+{
+    Value::Labelled(address, label_at(names, address.number()))
+}
+
+/// The label of the word that an order refers to.
+fn reference_label(names: &[(Name, u16)], op: Op, address: Address) -> &[u8]
+    ensures { result.now ≡ (if refers op then label_at names.now address else []) }
+{
+    match op {
+        Op::Z | Op::I | Op::P => b"",
+        _ => label_at(names, address.number()),
+    }
+}
+
+/// A word as the order that is performed, with the label of the word that it refers to.
+#[tactic(auto, unfolding(crate::specs::Words::labelled_order))]
+pub(crate) fn labelled_order(names: &[(Name, u16)], word: Word) -> Value<'_>
+    ensures { value_seen result ≡ labelled_order names.now word }
+{
+    let (minus, op, address) = parts(word);
+    let label = reference_label(names, op, address);
+    Value::LabelledOrder(has_minus(minus, op), op.letter(), address, label)
 }
 
 /// An address, where there is one.

@@ -18,7 +18,9 @@ use Rattle.lgp_stream.specs.Transcript.{Recorded, untouched}
 use Rattle.lgp_text.specs.PanelWords.{status_text}
 use Rattle.lgp_script.specs.LabState.{LabState, opening_state}
 use Rattle.lgp_monitor.specs.FileTexts.{answer_to_dump, answer_to_tape}
-use Rattle.lgp_monitor.specs.Monitor.{monitor_language, panel_at}
+use Rattle.lgp_fields.specs.declared.records.Form.{Form}
+use Rattle.lgp_fields.specs.declared.records.Form.TheVariants.{Lines, Objects}
+use Rattle.lgp_monitor.specs.Monitor.{monitor_language, panel_at, reply_in}
 use Rattle.lgp_desk.specs.FileForms.{dump_in, tape_of, text_made}
 use Rattle.lgp_desk.specs.Files.{Drawer, takes, text_in, with_file}
 use Rattle.lgp_desk.specs.Json.{json_answer, json_own}
@@ -116,10 +118,15 @@ within name note = if length note == 0 then name else name ++ (codes ", " ++ not
 
 -- ---- what is done, with the note that says where the line comes from
 
+-- the form of replies for programs
+abbrev pub form_in : Manner → Form
+form_in Json = Objects
+form_in manner = Lines
+
 -- a line that the monitor answers, and several
 abbrev pub answered : List ℕ → Seat → List ℕ → Said
 answered note seat line =
-    let reply = monitor_language.reply seat.recorded line in
+    let reply = reply_in seat.recorded (form_in seat.manner) line in
     record {
       texts = written seat.manner (kept_of line).front (kept_of line).longer note reply ∷ [];
       handed = Line line ∷ [];

@@ -7,7 +7,7 @@ use Rattle.std.specs.Str.{bytes_eq}
 use Rattle.bstr.specs.Text.{lines_of, without_terminator}
 use Rattle.lgp_fields.specs.Escaped.{escaped}
 use Rattle.lgp_stream.specs.Language.{is_question}
-use Rattle.lgp_stream.specs.LineWords.{after_word, first_word, without_spaces}
+use Rattle.lgp_stream.specs.LineWords.{first_word}
 
 -- ---- strings
 
@@ -16,31 +16,26 @@ json_string text = codes "\"" ++ (escaped text ++ codes "\"")
 
 -- ---- the lines of a reply
 
--- whether the replies to a command have a key and a value on each line
-abbrev pub is_keyed : List ℕ → Bool
-is_keyed name =
-    list_any (bytes_eq name) (codes "live" ∷ codes "commands" ∷ codes "cost" ∷ [])
+-- whether the replies to a command are for programs
+abbrev pub is_for_programs : List ℕ → Bool
+is_for_programs name =
+    list_any (bytes_eq name) (codes "json" ∷ codes "look" ∷ codes "cost" ∷ [])
     || ends_with nat_eq name (codes "-data")
 
-unfoldable pub has_keys : List ℕ → List ℕ → Bool
-has_keys line reply = not (is_question reply) && is_keyed (first_word line)
+-- then each of its lines is an object already; only a refusal is not
+unfoldable pub has_objects : List ℕ → List ℕ → Bool
+has_objects line reply = not (is_question reply) && is_for_programs (first_word line)
 
--- what a line says by its key: its first word, or that it is a refusal
-abbrev pub json_key : List ℕ → List ℕ
-json_key word = if bytes_eq word (codes "?") then codes "refusal" else word
-
--- a line of a reply: an object of its key and its value, or a string
+-- a line of a reply: as it is, or as a string
 unfoldable pub json_line : Bool → List ℕ → List ℕ
-json_line true line =
-    codes "{" ++ (json_string (json_key (first_word line))
-    ++ (codes ":" ++ (json_string (without_spaces (after_word line)) ++ codes "}")))
-json_line false line = json_string line
+json_line objects line =
+    if objects && not (is_question line) then line else json_string line
 
 -- the lines, with a comma in front of each but the first
 unfoldable pub json_lines : Bool → Bool → List (List ℕ) → List ℕ
-json_lines keyed first [] = []
-json_lines keyed first (line ∷ more) =
-    (if first then [] else codes ",") ++ (json_line keyed line ++ json_lines keyed false more)
+json_lines objects first [] = []
+json_lines objects first (line ∷ more) =
+    (if first then [] else codes ",") ++ (json_line objects line ++ json_lines objects false more)
 
 -- ---- the object
 
@@ -56,15 +51,15 @@ json_note note =
 
 -- what comes after the line
 unfoldable pub json_reply : Bool → List ℕ → List ℕ → List ℕ
-json_reply keyed note reply =
-    codes "\"reply\":[" ++ (json_lines keyed true (map without_terminator (lines_of reply))
+json_reply objects note reply =
+    codes "\"reply\":[" ++ (json_lines objects true (map without_terminator (lines_of reply))
     ++ ((if is_question reply then codes "],\"refused\":true" else codes "],\"refused\":false")
     ++ (json_note note ++ codes "}\n")))
 
 -- for a line, and for a reply of the desk itself
 unfoldable pub json_answer : List ℕ → Bool → List ℕ → List ℕ → List ℕ
 json_answer front longer note reply =
-    codes "{" ++ (json_typed front longer ++ json_reply (has_keys front reply) note reply)
+    codes "{" ++ (json_typed front longer ++ json_reply (has_objects front reply) note reply)
 
 unfoldable pub json_own : List ℕ → List ℕ → List ℕ
 json_own note reply = codes "{" ++ json_reply false note reply

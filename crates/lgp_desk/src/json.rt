@@ -3,11 +3,11 @@
 ghost use Rattle.std.specs.Prelude.{◌≡◌, ◌++◌, [], OnOk, codes, if◌then◌else◌, map, true};
 ghost use Rattle.bstr.specs.Text.{lines_of, without_terminator};
 ghost use Rattle.lgp_stream.specs.Language.{is_question};
-ghost use Rattle.lgp_desk.specs.Json.{has_keys, is_keyed, json_answer, json_key, json_line, json_lines, json_note, json_own, json_reply, json_string, json_typed};
+ghost use Rattle.lgp_desk.specs.Json.{has_objects, is_for_programs, json_answer, json_line, json_lines, json_note, json_own, json_reply, json_string, json_typed};
 
 use bstr::ByteSlice;
 use lgp_fields::push_escaped;
-use lgp_stream::{Split, is_question, split_word, without_spaces};
+use lgp_stream::{is_question, split_word};
 use std::alloc::{AllocError, Allocator};
 
 /// Appends a string.
@@ -20,53 +20,37 @@ fn push_string<A: Allocator>(text: &mut Vec<u8, A>, bytes: &[u8]) -> Result<(), 
     text.extend_from_slice(b"\"")
 }
 
-/// Whether the replies to a command have a key and a value on each line.
-fn is_keyed(name: &[u8]) -> bool
-    ensures { result ≡ is_keyed name.now }
+/// Whether the replies to a command are for programs.
+fn is_for_programs(name: &[u8]) -> bool
+    ensures { result ≡ is_for_programs name.now }
 {
-    name == b"live".as_slice()
-        || name == b"commands".as_slice()
+    name == b"json".as_slice()
+        || name == b"look".as_slice()
         || name == b"cost".as_slice()
         || name.ends_with(b"-data")
 }
 
-/// Whether the reply to a line has a key and a value on each line.
-#[tactic(auto, unfolding(crate::specs::Json::has_keys))]
-fn has_keys(line: &[u8], reply: &[u8]) -> bool
-    ensures { result ≡ has_keys line.now reply.now }
+/// Whether the reply to a line has an object on each line.
+#[tactic(auto, unfolding(crate::specs::Json::has_objects))]
+fn has_objects(line: &[u8], reply: &[u8]) -> bool
+    ensures { result ≡ has_objects line.now reply.now }
 {
-    !is_question(reply) && is_keyed(split_word(line).word)
-}
-
-/// The key of a line that has this first word.
-fn json_key(word: &[u8]) -> &[u8]
-    ensures { result.now ≡ json_key word.now }
-{
-    if word == b"?".as_slice() {
-        b"refusal"
-    } else {
-        word
-    }
+    !is_question(reply) && is_for_programs(split_word(line).word)
 }
 
 /// Appends a line of a reply.
 #[tactic(auto, unfolding(crate::specs::Json::json_line))]
 fn push_line<A: Allocator>(
     text: &mut Vec<u8, A>,
-    keyed: bool,
+    objects: bool,
     line: &[u8],
 ) -> Result<(), AllocError>
-    ensures { OnOk result (text.new.items ≡ text.old.items ++ json_line keyed line.now) }
+    ensures { OnOk result (text.new.items ≡ text.old.items ++ json_line objects line.now) }
 {
-    if !keyed {
-        return push_string(text, line);
+    if objects && !is_question(line) {
+        return text.extend_from_slice(line);
     }
-    let Split { word, rest } = split_word(line);
-    text.extend_from_slice(b"{")?;
-    push_string(text, json_key(word))?;
-    text.extend_from_slice(b":")?;
-    push_string(text, without_spaces(rest))?;
-    text.extend_from_slice(b"}")
+    push_string(text, line)
 }
 
 /// What is in front of a line of a reply.
@@ -80,17 +64,17 @@ fn separator(first: bool) -> &'static [u8]
 #[tactic(auto, unfolding(crate::specs::Json::json_lines))]
 fn push_lines<A: Allocator>(
     text: &mut Vec<u8, A>,
-    keyed: bool,
+    objects: bool,
     reply: &[u8],
 ) -> Result<(), AllocError>
     ensures { OnOk result (text.new.items
         ≡ text.old.items
-        ++ json_lines keyed true (map without_terminator (lines_of reply.now))) }
+        ++ json_lines objects true (map without_terminator (lines_of reply.now))) }
 {
     let mut first = true;
     for line in reply.lines() {
         text.extend_from_slice(separator(first))?;
-        push_line(text, keyed, line)?;
+        push_line(text, objects, line)?;
         first = false;
     }
     Ok(())
@@ -124,14 +108,14 @@ fn reply_end(reply: &[u8]) -> &'static [u8]
 #[tactic(auto, unfolding(crate::specs::Json::json_reply))]
 fn push_reply<A: Allocator>(
     text: &mut Vec<u8, A>,
-    keyed: bool,
+    objects: bool,
     note: &[u8],
     reply: &[u8],
 ) -> Result<(), AllocError>
-    ensures { OnOk result (text.new.items ≡ text.old.items ++ json_reply keyed note.now reply.now) }
+    ensures { OnOk result (text.new.items ≡ text.old.items ++ json_reply objects note.now reply.now) }
 {
     text.extend_from_slice(b"\"reply\":[")?;
-    push_lines(text, keyed, reply)?;
+    push_lines(text, objects, reply)?;
     text.extend_from_slice(reply_end(reply))?;
     push_from(text, note)?;
     text.extend_from_slice(b"}\n")
@@ -164,7 +148,7 @@ pub(crate) fn push_answer<A: Allocator>(
 {
     text.extend_from_slice(b"{")?;
     push_typed(text, front, longer)?;
-    push_reply(text, has_keys(front, reply), note, reply)
+    push_reply(text, has_objects(front, reply), note, reply)
 }
 
 /// Appends the object for a reply of the desk itself.

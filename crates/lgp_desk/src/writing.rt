@@ -2,9 +2,10 @@
 
 ghost use Rattle.std.specs.Prelude.{◌≡◌, ◌++◌, OnOk, codes, if◌then◌else◌};
 ghost use Rattle.lgp_stream.specs.Language.{is_question};
-ghost use Rattle.lgp_desk.specs.Desk.{echo_in, echo_of, note_line, written, written_last, written_own};
+ghost use Rattle.lgp_desk.specs.Desk.{echo_in, echo_of, form_in, note_line, written, written_last, written_own};
 
 use crate::json;
+use lgp_fields::Form;
 use lgp_stream::is_question;
 use std::alloc::{AllocError, Allocator};
 
@@ -19,6 +20,16 @@ pub enum Manner {
     Echoing,
     /// An object of JSON for each line, on a line of its own.
     Json,
+}
+
+/// The form of replies for programs.
+pub(crate) fn form_in(manner: Manner) -> Form
+    ensures { result ≡ form_in manner }
+{
+    match manner {
+        Manner::Json => Form::Objects,
+        Manner::Bare | Manner::Prompting | Manner::Echoing => Form::Lines,
+    }
 }
 
 /// The mark in front of a line that is shown above its reply.

@@ -15,7 +15,7 @@ static ROWS: [Row; 12] = [
     (
         b"; a\nput 0050 00000004",
         1,
-        b"? 1 Form: these are several lines, give them one by one\n",
+        b"? 1 Form: these are several lines; give them one at a time\n",
     ),
     (b"words 0050 1", 0, b"0050 00000006\n"),
     (b"", 0, b""),
@@ -141,7 +141,7 @@ fn reported_of_odd_lines(alloc: Global) -> [Reported; 3] {
 #[test]
 fn a_line_may_be_long_and_have_any_bytes(rt: HostRuntime) {
     let reported = reported_of_odd_lines(rt.alloc());
-    expect_eq(&rt, reported, [(1, 1, 75), (1, 1, 56), (1, 1, 56)]);
+    expect_eq(&rt, reported, [(1, 1, 75), (1, 1, 56), (1, 1, 59)]);
 }
 
 /// What is reported of the end of a session after these lines, or status 3 where memory is refused.

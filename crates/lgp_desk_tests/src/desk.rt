@@ -283,7 +283,7 @@ static TAPES_AND_DRUMS: [Row; 11] = [
     (
         Manner::Bare,
         b"press start\nrestore drum\ntape tape\ntape longer\n",
-        b"live\n? 2 Moving: the machine is running; press manual halts it\n        drum\n? 2 Moving: the machine is running; press manual halts it\n        tape\n? 2 Moving: the machine is running; press manual halts it\n        longer\n",
+        b"live\n? 2 Moving: the machine is running; press manual to halt it\n        drum\n? 2 Moving: the machine is running; press manual to halt it\n        tape\n? 2 Moving: the machine is running; press manual to halt it\n        longer\n",
         3,
     ),
     // A tape of bytes, one with a byte that is no code, and one that is longer than a line.
@@ -309,7 +309,7 @@ static TAPES_AND_DRUMS: [Row; 11] = [
     (
         Manner::Echoing,
         b"press start\nrestore-simh shown\nbytes coded\n",
-        b"> press start\nlive\n? restore-simh shown\n? 2 Moving: the machine is running; press manual halts it\n        shown\n? mount 12[16]3'\n? 2 Moving: the machine is running; press manual halts it\n        coded\n",
+        b"> press start\nlive\n? restore-simh shown\n? 2 Moving: the machine is running; press manual to halt it\n        shown\n? mount 12[16]3'\n? 2 Moving: the machine is running; press manual to halt it\n        coded\n",
         2,
     ),
     // A tape for which a line has room, one that is longer, and one whose text is: their names are in the transcript.

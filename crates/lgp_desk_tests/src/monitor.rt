@@ -29,7 +29,7 @@ static ROWS: [Row; 4] = [
     // No order, one that a rule stops after, one before rest, and none at rest. The transcript has one space before each operand.
     (
         b"put 0000 b 0003\nput 0001 z 0000\nbreak 0001\npress start\ntrace 0\ntrace   9  \ntrace 9999999999\ntrace 3\ntranscript\n",
-        b"ok\nok\nrule 0\nlive\n  clock  at           order           find take seek  act   sum  accumulator\nran 0 limit\n  clock  at           order           find take seek  act   sum  accumulator\n      0  0000         b 0003            64    1   26    1    92  00000000\n        this order was put there by hand, clock 0; before it was z 0000\nran 1 rule 0\n        the machine is still going: run continues, press manual halts it\n  clock  at           order           find take seek  act   sum  accumulator\n     92  0001         z 0000            45    1    1    1    48  00000000\nran 1 rest\n  clock  at           order           find take seek  act   sum  accumulator\nran 0 rest\n        a stop order halted the machine: press start continues\nput 0000 0001000j\nput 0001 00000000\nbreak 0001\npress start\nrun 0\nrun 9\nrun 9999999999\nrun 3\n",
+        b"ok\nok\nrule 0\nlive\n  clock  at           order           find take seek  act   sum  accumulator\nran 0 limit\n  clock  at           order           find take seek  act   sum  accumulator\n      0  0000         b 0003            64    1   26    1    92  00000000\n        this order was put there by hand, clock 0; before it was z 0000\nran 1 rule 0\n        the machine is still going: use run to continue, or press manual to halt it\n  clock  at           order           find take seek  act   sum  accumulator\n     92  0001         z 0000            45    1    1    1    48  00000000\nran 1 rest\n  clock  at           order           find take seek  act   sum  accumulator\nran 0 rest\n        a stop order halted the machine: press start to continue\nput 0000 0001000j\nput 0001 00000000\nbreak 0001\npress start\nrun 0\nrun 9\nrun 9999999999\nrun 3\n",
         0,
     ),
     // The last line of a listing that reads like a run.
@@ -117,7 +117,7 @@ const EACH: &[u8] =
 
 /// Questions of programs, each of which is answered by records.
 const ASKED: &[u8] =
-    b"source\nfirst y 0005\n p =a\n z\n end first\n.\nload\nbreak first\nrun 1\nrun 9\nmount 12'\nstate-data\nshow-data first 3\nwhy-data 0005\nlabels-data\nrules-data\npaper-data 0\ntape-data\nsource-data\ncost first\noptimum-data 1\noptimum-data 1 0005\ncommands-data\noperations-data\nfaults-data\n";
+    b"source\nfirst y 0005\n p =a\n z\n end first\n.\nload\nbreak first\nrun 1\nrun 9\nmount 12'\nstate-data\nshow-data first 3\nwhy-data 0005\nlabels-data\nrules-data\npaper-data 0\ntape-data\nsource-data\ncost first\noptimum-data 1\noptimum-data 1 0005\ncommands-data\noperations-data\nfaults-data\nlook first 3 0\njson look first 3 0\njson optimum-data 1\nback 1\njson trace-data 1\nback 1\njson profile-data 1\njson source-data\n";
 
 /// Two sources with faults.
 const FAULTY: &[u8] = b"source\n q\n b none\n end\n.\nsource\n z\n.\n";

@@ -1,5 +1,5 @@
 -- What is written in a line is read back.
-use Rattle.std.proofs.Common.{◌≡◌, ℕ, ◌+◌, ◌*◌, ◌/◌, ◌%◌, ◌<◌, ◌==◌, ◌&&◌, ◌||◌, Bool, true, false, cond, nat_lt, nat_le, List, [], ◌∷◌, ◌++◌, ap, ◌∙◌, arith, refl}
+use Rattle.std.proofs.Common.{◌≡◌, ℕ, ◌+◌, ◌*◌, ◌/◌, ◌%◌, ◌<◌, ◌==◌, ◌&&◌, ◌||◌, Bool, true, false, cond, nat_lt, nat_le, List, [], ◌∷◌, ◌++◌, ap, append_assoc, ◌∙◌, arith, refl}
 use Rattle.std.proofs.lemmas.Bool.Decides.{nat_tests}
 use Rattle.std.proofs.lemmas.Grind.{common_steps}
 use Rattle.lgp_fields.specs.Escaped.{escaped, escaped_byte, hex_digit}
@@ -16,7 +16,8 @@ unfolding unescaped_at hex_value
 by_tests c rest true printed below is =
     let other : (c == 117) ≡ false = grind (arith, nat_tests) in rw other refl
 by_tests c rest false true below is =
-    let other : (c == 92) ≡ false = grind (arith, nat_tests) in rw other refl
+    let other : (c == 92) ≡ false = grind (arith, nat_tests) in
+    let mark : (c == 34) ≡ false = grind (arith, nat_tests) in rw (mark, other) refl
 by_tests c rest false false below is =
     let high : hex_value (hex_digit (c / 16)) ≡ c / 16 = digit_back (c / 16) (omega arith) in
     let low : hex_value (hex_digit (c % 16)) ≡ c % 16 = digit_back (c % 16) (omega arith) in
@@ -40,6 +41,15 @@ text_back [] bytes = refl
 text_back (c ∷ more) bytes =
     let both = split (nat_lt c 256) (are_bytes more) bytes in
     byte_back c (escaped more) both.0 ∙ ap (λ (t : List ℕ). c ∷ t) (text_back more both.1)
+
+-- with a quotation mark and anything else after it
+pub text_back_in : (text rest : List ℕ) → are_bytes text ≡ true → unescaped_at 0 0 (escaped text ++ 34 ∷ rest) ≡ text
+unfolding escaped unescaped_at
+text_back_in [] rest bytes = refl
+text_back_in (c ∷ more) rest bytes =
+    let both = split (nat_lt c 256) (are_bytes more) bytes in
+    ap (λ (t : List ℕ). unescaped_at 0 0 t) (append_assoc (escaped_byte c) (escaped more) (34 ∷ rest))
+    ∙ byte_back c (escaped more ++ 34 ∷ rest) both.0 ∙ ap (λ (t : List ℕ). c ∷ t) (text_back_in more rest both.1)
 
 pub key_back : (key rest : List ℕ) → has_no_blank key ≡ true → key_of (key ++ 32 ∷ rest) ≡ key
 unfolding key_of

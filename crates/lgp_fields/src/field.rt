@@ -26,14 +26,20 @@ pub enum Value<'a> {
     Spans(u64, u64, u64, u64),
     /// A text.
     Text(&'a [u8]),
+    /// A text of one byte.
+    Byte(u8),
     /// The text of pieces, one after another.
     Pieces(&'a [Piece<'a>]),
     /// 32 bits as eight digits.
     Digits(u32),
     /// An address as `ttss`.
     Place(Address),
+    /// The same and a label, if that is not empty.
+    Labelled(Address, &'a [u8]),
     /// An order: whether it has a minus, its letter and its address.
     Order(bool, u8, Address),
+    /// The same and a label, if that is not empty.
+    LabelledOrder(bool, u8, Address, &'a [u8]),
 }
 
 /// A key and its value. A key has no blanks.

@@ -1,17 +1,16 @@
 //! Records as objects of JSON.
 
-ghost use Rattle.std.specs.Prelude.{◌≡◌, ◌≤◌, ◌++◌, OnOk, codes, if◌then◌else◌, length, true};
+ghost use Rattle.std.specs.Prelude.{◌≡◌, ◌≤◌, ◌++◌, OnOk, codes, [], ◌∷◌, if◌then◌else◌, length, true};
 ghost use Rattle.lgp_text.specs.Pieces.{pieces_text};
 ghost use Rattle.lgp_fields.specs.Escaped.{escaped};
-ghost use Rattle.lgp_fields.specs.Printed.{field_json, fields_json, numbers_text, record_json, value_json};
-ghost use Rattle.lgp_fields.specs.Seen.{field_seen, fields_seen, order_text, value_seen};
+ghost use Rattle.lgp_fields.specs.Printed.{field_json, fields_json, number_json, numbers_text, record_json, value_json};
+ghost use Rattle.lgp_fields.specs.Seen.{field_seen, fields_seen, label_text, order_text, value_seen};
+ghost use Rattle.lgp_word.specs.Digits.{address_digits};
 
 use crate::escaped::push_escaped;
 use crate::field::{Field, Value};
-use crate::numbers::{
-    push_number, push_numbers, push_signed, push_wide, push_wide_numbers, separator,
-};
-use crate::texts::{push_escaped_order, push_escaped_pieces};
+use crate::numbers::{push_number, push_signed, push_wide, separator};
+use crate::texts::{push_escaped_labelled, push_escaped_order, push_escaped_pieces};
 use lgp_text::Piece;
 use lgp_word::{Address, write_bits};
 use std::alloc::{AllocError, Allocator};
@@ -23,23 +22,88 @@ fn truth_text(holds: bool) -> &'static [u8]
     if holds { b"true" } else { b"false" }
 }
 
+/// The quotation mark around a number that many readers do not keep exactly.
+fn number_mark(is_large: bool) -> &'static [u8]
+    ensures { result.now ≡ (if is_large then codes "\"" else []) }
+{
+    if is_large { b"\"" } else { b"" }
+}
+
+/// Appends a number, from 2^53 on as a string.
+#[tactic(auto, unfolding(crate::specs::Printed::number_json))]
+fn push_json_number<A: Allocator>(text: &mut Vec<u8, A>, number: u64) -> Result<(), AllocError>
+    ensures { OnOk result (text.new.items ≡ text.old.items ++ number_json number) }
+{
+    let mark = number_mark(number >= 1 << 53);
+    text.extend_from_slice(mark)?;
+    push_number(text, number)?;
+    text.extend_from_slice(mark)
+}
+
+/// The same of a number of up to 128 bits.
+#[tactic(auto, unfolding(crate::specs::Printed::number_json))]
+fn push_wide_json_number<A: Allocator>(
+    text: &mut Vec<u8, A>,
+    number: u128,
+) -> Result<(), AllocError>
+    ensures { OnOk result (text.new.items ≡ text.old.items ++ number_json number) }
+{
+    let mark = number_mark(number >= 1 << 53);
+    text.extend_from_slice(mark)?;
+    push_wide(text, number)?;
+    text.extend_from_slice(mark)
+}
+
+/// Appends numbers with commas between them.
+#[tactic(auto, unfolding(crate::specs::Printed::numbers_text))]
+fn push_json_numbers<A: Allocator>(text: &mut Vec<u8, A>, numbers: &[u64]) -> Result<(), AllocError>
+    ensures { OnOk result (text.new.items
+        ≡ text.old.items ++ numbers_text number_json (codes ",") true numbers.now) }
+{
+    let mut first = true;
+    for number in numbers {
+        text.extend_from_slice(separator(first, b","))?;
+        push_json_number(text, *number)?;
+        first = false;
+    }
+    Ok(())
+}
+
+/// The same of numbers of up to 128 bits.
+#[tactic(auto, unfolding(crate::specs::Printed::numbers_text))]
+fn push_wide_json_numbers<A: Allocator>(
+    text: &mut Vec<u8, A>,
+    numbers: &[u128],
+) -> Result<(), AllocError>
+    ensures { OnOk result (text.new.items
+        ≡ text.old.items ++ numbers_text number_json (codes ",") true numbers.now) }
+{
+    let mut first = true;
+    for number in numbers {
+        text.extend_from_slice(separator(first, b","))?;
+        push_wide_json_number(text, *number)?;
+        first = false;
+    }
+    Ok(())
+}
+
 /// Appends numbers as an array.
 fn push_array<A: Allocator>(text: &mut Vec<u8, A>, numbers: &[u64]) -> Result<(), AllocError>
     ensures { OnOk result (text.new.items ≡ text.old.items
-        ++ (codes "[" ++ (numbers_text (codes ",") true numbers.now ++ codes "]"))) }
+        ++ (codes "[" ++ (numbers_text number_json (codes ",") true numbers.now ++ codes "]"))) }
 {
     text.extend_from_slice(b"[")?;
-    push_numbers(text, b",", numbers)?;
+    push_json_numbers(text, numbers)?;
     text.extend_from_slice(b"]")
 }
 
 /// Appends numbers of up to 128 bits as an array.
 fn push_wide_array<A: Allocator>(text: &mut Vec<u8, A>, numbers: &[u128]) -> Result<(), AllocError>
     ensures { OnOk result (text.new.items ≡ text.old.items
-        ++ (codes "[" ++ (numbers_text (codes ",") true numbers.now ++ codes "]"))) }
+        ++ (codes "[" ++ (numbers_text number_json (codes ",") true numbers.now ++ codes "]"))) }
 {
     text.extend_from_slice(b"[")?;
-    push_wide_numbers(text, b",", numbers)?;
+    push_wide_json_numbers(text, numbers)?;
     text.extend_from_slice(b"]")
 }
 
@@ -66,42 +130,66 @@ fn push_pieces_string<A: Allocator>(
     text.extend_from_slice(b"\"")
 }
 
-/// Appends an order as a string.
+/// Appends an address with its label as a string.
+fn push_labelled_string<A: Allocator>(
+    text: &mut Vec<u8, A>,
+    address: Address,
+    label: &[u8],
+) -> Result<(), AllocError>
+    ensures { OnOk result (text.new.items ≡ text.old.items
+        ++ (codes "\"" ++ (escaped (address_digits address ++ label_text label.now)
+        ++ codes "\""))) }
+{
+    text.extend_from_slice(b"\"")?;
+    push_escaped_labelled(text, address, label)?;
+    text.extend_from_slice(b"\"")
+}
+
+/// Appends an order with its label as a string.
 fn push_order_string<A: Allocator>(
     text: &mut Vec<u8, A>,
     minus: bool,
     letter: u8,
     address: Address,
+    label: &[u8],
 ) -> Result<(), AllocError>
     ensures { OnOk result (text.new.items ≡ text.old.items
-        ++ (codes "\"" ++ (escaped (order_text minus letter address) ++ codes "\""))) }
+        ++ (codes "\"" ++ (escaped (order_text minus letter address ++ label_text label.now)
+        ++ codes "\""))) }
 {
     text.extend_from_slice(b"\"")?;
-    push_escaped_order(text, minus, letter, address)?;
+    push_escaped_order(text, minus, letter, address, label)?;
     text.extend_from_slice(b"\"")
 }
 
 /// Appends a value.
-#[tactic(auto, unfolding(crate::specs::Printed::value_json))]
+#[tactic(auto, unfolding(crate::specs::Printed::value_json, crate::specs::Seen::label_text))]
 fn push_value<A: Allocator>(text: &mut Vec<u8, A>, value: &Value) -> Result<(), AllocError>
     ensures { OnOk result (text.new.items
         ≡ text.old.items ++ value_json (value_seen value.now)) }
 {
     match *value {
         Value::Nothing => text.extend_from_slice(b"null"),
-        Value::Number(number) => push_number(text, number),
+        Value::Number(number) => push_json_number(text, number),
         Value::Signed(minus, size) => push_signed(text, minus, size),
         Value::YesNo(holds) => text.extend_from_slice(truth_text(holds)),
-        Value::Wide(number) => push_wide(text, *number),
+        Value::Wide(number) => push_wide_json_number(text, *number),
         Value::Numbers(numbers) => push_array(text, numbers),
         Value::WideNumbers(numbers) => push_wide_array(text, numbers),
         Value::Span(first, past) => push_array(text, &[first, past]),
         Value::Spans(first, past, next, end) => push_array(text, &[first, past, next, end]),
         Value::Text(bytes) => push_string(text, bytes),
+        Value::Byte(byte) => push_string(text, &[byte]),
         Value::Pieces(pieces) => push_pieces_string(text, pieces),
         Value::Digits(bits) => push_string(text, &write_bits(bits)),
         Value::Place(address) => push_string(text, &address.print()),
-        Value::Order(minus, letter, address) => push_order_string(text, minus, letter, address),
+        Value::Labelled(address, label) => push_labelled_string(text, address, label),
+        Value::Order(minus, letter, address) => {
+            push_order_string(text, minus, letter, address, b"")
+        }
+        Value::LabelledOrder(minus, letter, address, label) => {
+            push_order_string(text, minus, letter, address, label)
+        }
     }
 }
 

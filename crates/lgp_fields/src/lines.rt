@@ -7,7 +7,7 @@ ghost use Rattle.lgp_fields.specs.Seen.{field_seen, fields_seen, value_seen};
 use crate::escaped::push_escaped;
 use crate::field::{Field, Value};
 use crate::numbers::{push_number, push_numbers, push_signed, push_wide, push_wide_numbers};
-use crate::texts::{push_escaped_order, push_escaped_pieces};
+use crate::texts::{push_escaped_labelled, push_escaped_order, push_escaped_pieces};
 use lgp_word::write_bits;
 use std::alloc::{AllocError, Allocator};
 
@@ -19,7 +19,7 @@ fn yes_text(holds: bool) -> &'static [u8]
 }
 
 /// Appends a value as it stands in a line.
-#[tactic(auto, unfolding(crate::specs::Printed::value_text))]
+#[tactic(auto, unfolding(crate::specs::Printed::value_text, crate::specs::Seen::label_text))]
 fn push_value<A: Allocator>(text: &mut Vec<u8, A>, value: &Value) -> Result<(), AllocError>
     ensures { OnOk result (text.new.items
         ≡ text.old.items ++ value_text (value_seen value.now)) }
@@ -37,10 +37,17 @@ fn push_value<A: Allocator>(text: &mut Vec<u8, A>, value: &Value) -> Result<(), 
             push_numbers(text, b" ", &[first, past, next, end])
         }
         Value::Text(bytes) => push_escaped(text, bytes),
+        Value::Byte(byte) => push_escaped(text, &[byte]),
         Value::Pieces(pieces) => push_escaped_pieces(text, pieces),
         Value::Digits(bits) => push_escaped(text, &write_bits(bits)),
         Value::Place(address) => push_escaped(text, &address.print()),
-        Value::Order(minus, letter, address) => push_escaped_order(text, minus, letter, address),
+        Value::Labelled(address, label) => push_escaped_labelled(text, address, label),
+        Value::Order(minus, letter, address) => {
+            push_escaped_order(text, minus, letter, address, b"")
+        }
+        Value::LabelledOrder(minus, letter, address, label) => {
+            push_escaped_order(text, minus, letter, address, label)
+        }
     }
 }
 

@@ -46,7 +46,7 @@ pub(crate) fn push_numbers<A: Allocator>(
     numbers: &[u64],
 ) -> Result<(), AllocError>
     ensures { OnOk result (text.new.items
-        ≡ text.old.items ++ numbers_text between.now true numbers.now) }
+        ≡ text.old.items ++ numbers_text decimal between.now true numbers.now) }
 {
     let mut first = true;
     for number in numbers {
@@ -73,7 +73,7 @@ pub(crate) fn push_wide_numbers<A: Allocator>(
     numbers: &[u128],
 ) -> Result<(), AllocError>
     ensures { OnOk result (text.new.items
-        ≡ text.old.items ++ numbers_text between.now true numbers.now) }
+        ≡ text.old.items ++ numbers_text decimal between.now true numbers.now) }
 {
     let mut first = true;
     for number in numbers {

@@ -1,35 +1,30 @@
 //! Records in one of the two forms.
 
 ghost use Rattle.std.specs.Prelude.{◌≡◌, ◌≤◌, ◌++◌, OnOk, codes, length};
-ghost use Rattle.lgp_fields.specs.Printed.{record_in, record_json, record_lines, separated};
+ghost use Rattle.lgp_fields.specs.Printed.{record_in, record_json, record_lines};
 ghost use Rattle.lgp_fields.specs.Seen.{fields_seen};
 
 use crate::field::Field;
 use crate::json::{push_joined_object, push_object};
 use crate::lines::push_lines;
-use crate::numbers::separator;
 use std::alloc::{AllocError, Allocator};
 
 /// The form of a reply for programs.
-#[derive(Clone, Copy)]
+#[derive(Clone, Copy, Debug, PartialEq, Eq)]
 pub enum Form {
     /// A line for each field that has a value.
     Lines,
-    /// An object of JSON for each record, with a comma in front of each but the first.
+    /// An object of JSON for each record, on a line of its own.
     Objects,
 }
 
-/// Appends the object of a record, the first one of a reply or a later one.
-fn push_listed<A: Allocator>(
-    text: &mut Vec<u8, A>,
-    first: bool,
-    fields: &[Field],
-) -> Result<(), AllocError>
+/// Appends the object of a record as a line.
+fn push_object_line<A: Allocator>(text: &mut Vec<u8, A>, fields: &[Field]) -> Result<(), AllocError>
     ensures { OnOk result (text.new.items
-        ≡ text.old.items ++ (separated first (codes ",") ++ record_json (fields_seen fields.now))) }
+        ≡ text.old.items ++ (record_json (fields_seen fields.now) ++ codes "\n")) }
 {
-    text.extend_from_slice(separator(first, b","))?;
-    push_object(text, fields)
+    push_object(text, fields)?;
+    text.extend_from_slice(b"\n")
 }
 
 /// Appends the lines of a record whose fields come in three parts.
@@ -47,55 +42,52 @@ fn push_joined_lines<A: Allocator>(
     push_lines(text, back)
 }
 
-/// Appends the object of a record whose fields come in three parts, the first one of a reply or a later one.
-fn push_joined_listed<A: Allocator>(
+/// Appends the object of a record whose fields come in three parts as a line.
+fn push_joined_object_line<A: Allocator>(
     text: &mut Vec<u8, A>,
-    first: bool,
     front: &[Field],
     middle: &[Field],
     back: &[Field],
 ) -> Result<(), AllocError>
     requires { 1 ≤ length front.now }
-    ensures { OnOk result (text.new.items ≡ text.old.items ++ (separated first (codes ",")
-        ++ record_json (fields_seen front.now ++ (fields_seen middle.now ++ fields_seen back.now)))) }
+    ensures { OnOk result (text.new.items ≡ text.old.items ++ (record_json
+        (fields_seen front.now ++ (fields_seen middle.now ++ fields_seen back.now)) ++ codes "\n")) }
 {
-    text.extend_from_slice(separator(first, b","))?;
-    push_joined_object(text, front, middle, back)
+    push_joined_object(text, front, middle, back)?;
+    text.extend_from_slice(b"\n")
 }
 
-/// Appends a record whose fields come in three parts, the first one of a reply or a later one.
+/// Appends a record whose fields come in three parts.
 #[tactic(auto, unfolding(crate::specs::Printed::record_in))]
 pub fn push_joined<A: Allocator>(
     text: &mut Vec<u8, A>,
     form: Form,
-    first: bool,
     front: &[Field],
     middle: &[Field],
     back: &[Field],
 ) -> Result<(), AllocError>
     requires { 1 ≤ length front.now }
-    ensures { OnOk result (text.new.items ≡ text.old.items ++ record_in form first
+    ensures { OnOk result (text.new.items ≡ text.old.items ++ record_in form
         (fields_seen front.now ++ (fields_seen middle.now ++ fields_seen back.now))) }
 {
     match form {
         Form::Lines => push_joined_lines(text, front, middle, back),
-        Form::Objects => push_joined_listed(text, first, front, middle, back),
+        Form::Objects => push_joined_object_line(text, front, middle, back),
     }
 }
 
-/// Appends a record in a form, the first one of a reply or a later one.
+/// Appends a record in a form.
 #[tactic(auto, unfolding(crate::specs::Printed::record_in))]
 pub fn push_record<A: Allocator>(
     text: &mut Vec<u8, A>,
     form: Form,
-    first: bool,
     fields: &[Field],
 ) -> Result<(), AllocError>
     ensures { OnOk result (text.new.items
-        ≡ text.old.items ++ record_in form first (fields_seen fields.now)) }
+        ≡ text.old.items ++ record_in form (fields_seen fields.now)) }
 {
     match form {
         Form::Lines => push_lines(text, fields),
-        Form::Objects => push_listed(text, first, fields),
+        Form::Objects => push_object_line(text, fields),
     }
 }

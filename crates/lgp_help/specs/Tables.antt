@@ -1,7 +1,7 @@
 -- Part of the public promise: what is told about commands, operations and kinds of faults. Each table
 -- is a text of the code, a row on each line, with a bar between two columns; what its words are, no
 -- clause says a second time.
-use Rattle.std.specs.Prelude.{ℕ, ◌==◌, Bool, true, false, if◌then◌else◌, List, [], ◌∷◌, ◌++◌}
+use Rattle.std.specs.Prelude.{ℕ, ◌==◌, Bool, if◌then◌else◌, List, [], ◌∷◌, ◌++◌}
 use Rattle.std.specs.Prelude.{drop, length, map, take}
 use Rattle.std.specs.List.{position_or_len}
 use Rattle.std.specs.Str.{byte}
@@ -50,13 +50,12 @@ row_fields keys row =
 
 -- ---- tables
 
-unfoldable pub rows_text : Form → Bool → List ℕ → List (List ℕ) → List ℕ
-rows_text form first keys [] = []
-rows_text form first keys (row ∷ more) =
-    record_in form first (row_fields keys row) ++ rows_text form false keys more
+unfoldable pub rows_text : Form → List ℕ → List (List ℕ) → List ℕ
+rows_text form keys [] = []
+rows_text form keys (row ∷ more) = record_in form (row_fields keys row) ++ rows_text form keys more
 
 abbrev pub table_text : Form → List ℕ → List ℕ → List ℕ
-table_text form keys rows = rows_text form true keys (map without_terminator (lines_of rows))
+table_text form keys rows = rows_text form keys (map without_terminator (lines_of rows))
 
 unfoldable pub commands_text : Form → List ℕ
 commands_text form = table_text form COMMAND_KEYS COMMANDS

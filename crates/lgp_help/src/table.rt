@@ -1,6 +1,6 @@
 //! Tables as records for programs.
 
-ghost use Rattle.std.specs.Prelude.{◌≡◌, ◌++◌, OnOk, drop, map, true};
+ghost use Rattle.std.specs.Prelude.{◌≡◌, ◌++◌, OnOk, drop, map};
 ghost use Rattle.bstr.specs.Text.{lines_of, without_terminator};
 ghost use Rattle.std.specs.List.{position, position_or_len};
 ghost use Rattle.lgp_fields.specs.Printed.{record_in};
@@ -61,17 +61,16 @@ fn value_of(column: &[u8]) -> Value<'_>
     }
 }
 
-/// Appends the record of a row, the first one of a reply or a later one.
+/// Appends the record of a row.
 #[tactic(auto, unfolding(crate::specs::Tables::row_fields))]
 fn push_row<A: Allocator>(
     text: &mut Vec<u8, A>,
     form: Form,
-    first: bool,
     keys: &[u8],
     row: &[u8],
 ) -> Result<(), AllocError>
     ensures { OnOk result (text.new.items
-        ≡ text.old.items ++ record_in form first (row_fields keys.now row.now)) }
+        ≡ text.old.items ++ record_in form (row_fields keys.now row.now)) }
 {
     let (key1, row1) = (columns_of(keys), columns_of(row));
     let (key2, row2) = (columns_of(key1.others), columns_of(row1.others));
@@ -83,7 +82,6 @@ fn push_row<A: Allocator>(
     push_record(
         text,
         form,
-        first,
         &[
             (key1.first, value_of(row1.first)),
             (key2.first, value_of(row2.first)),
@@ -105,12 +103,10 @@ fn push_rows<A: Allocator>(
     rows: &[u8],
 ) -> Result<(), AllocError>
     ensures { OnOk result (text.new.items ≡ text.old.items
-        ++ rows_text form true keys.now (map without_terminator (lines_of rows.now))) }
+        ++ rows_text form keys.now (map without_terminator (lines_of rows.now))) }
 {
-    let mut first = true;
     for row in rows.lines() {
-        push_row(text, form, first, keys, row)?;
-        first = false;
+        push_row(text, form, keys, row)?;
     }
     Ok(())
 }

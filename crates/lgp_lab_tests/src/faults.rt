@@ -16,177 +16,212 @@ use lgp_task::TaskFault;
 use std::alloc::Global;
 use std::fmt::Display;
 
-/// Whether a fault is shown so.
-fn is_told<T: Display + Drop>(alloc: Global, fault: T, wanted: &str) -> bool {
-    match format!(in alloc; "{fault}") {
-        Ok(told) => told.as_str() == wanted,
+/// Appends how a fault is shown, and a line feed; false without memory.
+fn is_told<T: Display + Drop>(alloc: Global, text: &mut Vec<u8>, fault: T) -> bool {
+    match format!(in alloc; "{fault}\n") {
+        Ok(told) => text.extend_from_slice(told.as_bytes()).is_ok(),
         Err(_) => false,
     }
 }
 
-/// Whether the refusal of a source with a fault is shown so.
-fn is_faulty_told(alloc: Global, wanted: &str) -> bool {
+/// The same of several.
+fn are_told<T: Display + Copy + Drop>(alloc: Global, text: &mut Vec<u8>, faults: &[T]) -> bool {
+    for fault in faults {
+        if !is_told(alloc, text, *fault) {
+            return false;
+        }
+    }
+    true
+}
+
+/// The same of the refusal of a source with a fault.
+fn is_source_told(alloc: Global, text: &mut Vec<u8>) -> bool {
     match assemble(alloc, b" q\n") {
         Ok(_) => false,
-        Err(fault) => is_told(alloc, fault, wanted),
+        Err(fault) => is_told(alloc, text, fault),
     }
 }
 
-/// Faults of texts that are read.
-fn of_texts(alloc: Global) -> [bool; 14] {
-    [
-        is_told(alloc, FractionFault::Form, "not a decimal fraction"),
-        is_told(alloc, FractionFault::OutOfRange, "not from -1 to below 1"),
-        is_told(
+const PLAY: PlayFault = PlayFault {
+    done: 7,
+    fault: TurnFault::ClockEnd,
+};
+
+const RUN: RunFault = RunFault {
+    orders: 7,
+    fault: RunRefusal::ClockEnd,
+};
+
+/// Faults of texts that are read; false without memory.
+fn of_texts(alloc: Global, text: &mut Vec<u8>) -> bool {
+    are_told(
+        alloc,
+        text,
+        &[FractionFault::Form, FractionFault::OutOfRange],
+    ) && is_told(alloc, text, TextFault::BadSign(7))
+        && is_told(alloc, text, TextFault::TooLong)
+        && is_told(alloc, text, BytesFault::NoCode(7))
+        && is_told(alloc, text, BytesFault::TooLong)
+        && are_told(
             alloc,
-            TextFault::BadSign(7),
-            "neither a sign nor a group at byte 7",
-        ),
-        is_told(alloc, TextFault::TooLong, "more than 1048576 codes"),
-        is_told(alloc, BytesFault::NoCode(7), "the byte at 7 is above 63"),
-        is_told(alloc, BytesFault::TooLong, "more than 1048576 codes"),
-        is_told(
+            text,
+            &[
+                ExaminedFault::Form(7),
+                ExaminedFault::Order(7),
+                ExaminedFault::Memory,
+            ],
+        )
+        && are_told(
             alloc,
-            ExaminedFault::Form(7),
-            "line 7 is neither a word that SIMH shows nor one that it is given",
-        ),
-        is_told(
-            alloc,
-            ExaminedFault::Order(7),
-            "the address of line 7 is not above that of the line before it",
-        ),
-        is_told(alloc, ExaminedFault::Memory, "no memory for the drum"),
-        is_told(alloc, DumpFault::Form(7), "line 7 is no line of a dump"),
-        is_told(
-            alloc,
-            DumpFault::Order(7),
-            "the address of line 7 is not above that of the line before it",
-        ),
-        is_told(alloc, DumpFault::Memory, "no memory for the drum"),
-        is_faulty_told(alloc, "the source has faults"),
-        is_told(
-            alloc,
-            AssembleError::<Global>::Memory,
-            "no memory for the image",
-        ),
-    ]
+            text,
+            &[DumpFault::Form(7), DumpFault::Order(7), DumpFault::Memory],
+        )
+        && is_source_told(alloc, text)
+        && is_told(alloc, text, AssembleError::<Global>::Memory)
 }
 
-/// Faults of the machine, and of what keys in and loads.
-fn of_machines(alloc: Global) -> [bool; 24] {
-    let turn = TurnFault::ClockEnd;
-    [
-        is_told(alloc, PressFault::Full, "16 actions are kept already"),
-        is_told(alloc, turn, "the clock has ended"),
-        is_told(alloc, TurnFault::Memory, "out of memory for a printed code"),
-        is_told(
+/// Faults of the machine, and of what keys in and loads; false without memory.
+fn of_machines(alloc: Global, text: &mut Vec<u8>) -> bool {
+    are_told(alloc, text, &[PressFault::Full])
+        && are_told(alloc, text, &[TurnFault::ClockEnd, TurnFault::Memory])
+        && are_told(alloc, text, &[PLAY])
+        && are_told(
             alloc,
-            PlayFault {
-                done: 7,
-                fault: turn,
-            },
-            "event 7: the clock has ended",
-        ),
-        is_told(alloc, OrderFault::Moving, "an activity has been begun"),
-        is_told(alloc, OrderFault::AtRest, "the machine is at rest"),
-        is_told(alloc, OrderFault::ClockEnd, "the clock would pass its end"),
-        is_told(
+            text,
+            &[
+                OrderFault::Moving,
+                OrderFault::AtRest,
+                OrderFault::ClockEnd,
+                OrderFault::Memory,
+            ],
+        )
+        && are_told(alloc, text, &[RestFault::AtWork, RestFault::ClockEnd])
+        && are_told(
             alloc,
-            OrderFault::Memory,
-            "out of memory for a printed code",
-        ),
-        is_told(alloc, RestFault::AtWork, "the machine is at work"),
-        is_told(alloc, RestFault::ClockEnd, "the clock would pass its end"),
-        is_told(alloc, MountFault::Moving, "the machine is not at rest"),
-        is_told(
+            text,
+            &[MountFault::Moving, MountFault::TooLong, MountFault::Memory],
+        )
+        && are_told(alloc, text, &[PutFault::Moving, PutFault::Memory])
+        && are_told(
             alloc,
-            MountFault::TooLong,
-            "the tape has more than 1048576 codes",
-        ),
-        is_told(alloc, MountFault::Memory, "out of memory"),
-        is_told(alloc, PutFault::Moving, "the machine is not at rest"),
-        is_told(alloc, PutFault::Memory, "out of memory"),
-        is_told(alloc, KeyFault::Moving, "an activity has been begun"),
-        is_told(
+            text,
+            &[KeyFault::Moving, KeyFault::PastEnd, KeyFault::ClockEnd],
+        )
+        && are_told(
             alloc,
-            KeyFault::PastEnd,
-            "the words go past the end of the drum",
-        ),
-        is_told(alloc, KeyFault::ClockEnd, "the clock would pass its end"),
-        is_told(alloc, LoadFault::Moving, "an activity has been begun"),
-        is_told(alloc, LoadFault::ClockEnd, "the clock would pass its end"),
-        is_told(alloc, LoadFault::Memory, "out of memory for the tape"),
-        is_told(
-            alloc,
-            LoadFault::BadCut,
-            "these are not the lengths of blocks",
-        ),
-        is_told(
-            alloc,
-            CutFault::BadCut,
-            "these are not the lengths of blocks",
-        ),
-        is_told(alloc, CutFault::Memory, "out of memory for the tape"),
-    ]
+            text,
+            &[
+                LoadFault::Moving,
+                LoadFault::ClockEnd,
+                LoadFault::Memory,
+                LoadFault::BadCut,
+            ],
+        )
+        && are_told(alloc, text, &[CutFault::BadCut, CutFault::Memory])
 }
 
-/// Faults of the debugger, of scripts and of the command line.
-fn of_runs(alloc: Global) -> [bool; 20] {
-    let step = StepFault::ClockEnd;
-    let run = RunRefusal::ClockEnd;
-    [
-        is_told(alloc, BackFault::TooFar(7), "only 7 orders are kept"),
-        is_told(alloc, BackFault::Memory, "out of memory"),
-        is_told(alloc, StepFault::AtRest, "the machine is at rest"),
-        is_told(alloc, step, "the clock would pass its end"),
-        is_told(alloc, StepFault::Memory, "out of memory"),
-        is_told(alloc, IdleFault::AtWork, "the machine is at work"),
-        is_told(alloc, IdleFault::ClockEnd, "the clock would pass its end"),
-        is_told(alloc, IdleFault::Memory, "out of memory"),
-        is_told(alloc, RuleFault::Full, "there are 64 rules already"),
-        is_told(
+/// Faults of the debugger, of scripts and of the command line; false without memory.
+fn of_runs(alloc: Global, text: &mut Vec<u8>) -> bool {
+    are_told(alloc, text, &[BackFault::TooFar(7), BackFault::Memory])
+        && are_told(
             alloc,
-            HitFault::NoHit(7),
-            "no rule hits any of the 7 orders that are kept",
-        ),
-        is_told(alloc, HitFault::Memory, "out of memory"),
-        is_told(alloc, run, "the clock would pass its end"),
-        is_told(alloc, RunRefusal::Memory, "out of memory"),
-        is_told(
+            text,
+            &[StepFault::AtRest, StepFault::ClockEnd, StepFault::Memory],
+        )
+        && are_told(
             alloc,
-            RunFault {
-                orders: 7,
-                fault: run,
-            },
-            "after 7 orders: the clock would pass its end",
-        ),
-        is_told(
+            text,
+            &[IdleFault::AtWork, IdleFault::ClockEnd, IdleFault::Memory],
+        )
+        && are_told(alloc, text, &[RuleFault::Full])
+        && are_told(alloc, text, &[HitFault::NoHit(7), HitFault::Memory])
+        && are_told(alloc, text, &[RunRefusal::ClockEnd, RunRefusal::Memory])
+        && are_told(alloc, text, &[RUN])
+        && are_told(
             alloc,
-            WatchFault::Refused(step),
-            "the clock would pass its end",
-        ),
-        is_told(
+            text,
+            &[WatchFault::Refused(StepFault::ClockEnd), WatchFault::Unseen],
+        )
+        && are_told(
             alloc,
-            WatchFault::Unseen,
-            "out of memory for what the order showed",
-        ),
-        is_told(alloc, LabFault::Read, "the text cannot be read"),
-        is_told(
-            alloc,
-            LabFault::Write(7),
-            "the replies cannot be written past byte 7",
-        ),
-        is_told(alloc, LabFault::Memory, "out of memory"),
-        is_told(alloc, TaskFault::<Global>::Memory, "out of memory"),
-    ]
+            text,
+            &[LabFault::Read, LabFault::Write(7), LabFault::Memory],
+        )
+        && is_told(alloc, text, TaskFault::<Global>::Memory)
+}
+
+/// How they are shown.
+const TOLD: &[u8] = b"not a decimal fraction
+not from -1 to below 1
+neither a sign nor a group at byte 7
+more than 1048576 codes
+the byte at 7 is above 63
+more than 1048576 codes
+line 7 is neither a word that SIMH shows nor one that it is given
+the address of line 7 is not above that of the line before it
+no memory for the drum
+line 7 is no line of a dump
+the address of line 7 is not above that of the line before it
+no memory for the drum
+the source has faults
+no memory for the image
+16 actions are kept already
+the clock has ended
+out of memory for a printed code
+event 7: the clock has ended
+an activity has been begun
+the machine is at rest
+the clock would pass its end
+out of memory for a printed code
+the machine is at work
+the clock would pass its end
+the machine is not at rest
+the tape has more than 1048576 codes
+out of memory
+the machine is not at rest
+out of memory
+an activity has been begun
+the words go past the end of the drum
+the clock would pass its end
+an activity has been begun
+the clock would pass its end
+out of memory for the tape
+these are not the lengths of blocks
+these are not the lengths of blocks
+out of memory for the tape
+only 7 orders are kept
+out of memory
+the machine is at rest
+the clock would pass its end
+out of memory
+the machine is at work
+the clock would pass its end
+out of memory
+there are 64 rules already
+no rule hits any of the 7 orders that are kept
+out of memory
+the clock would pass its end
+out of memory
+after 7 orders: the clock would pass its end
+the clock would pass its end
+out of memory for what the order showed
+the text cannot be read
+the replies cannot be written past byte 7
+out of memory
+out of memory
+";
+
+/// How all faults are shown; `None` without memory.
+fn told(alloc: Global) -> Option<bool> {
+    let mut text = Vec::new(alloc);
+    if of_texts(alloc, &mut text) && of_machines(alloc, &mut text) && of_runs(alloc, &mut text) {
+        Some(text.as_slice() == TOLD)
+    } else {
+        None
+    }
 }
 
 #[test]
 fn faults_have_their_texts(rt: HostRuntime) {
-    let told = (
-        of_texts(rt.alloc()),
-        of_machines(rt.alloc()),
-        of_runs(rt.alloc()),
-    );
-    expect_eq(&rt, told, ([true; 14], [true; 24], [true; 20]));
+    expect_eq(&rt, told(rt.alloc()), Some(true));
 }

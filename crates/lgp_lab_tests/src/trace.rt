@@ -3,12 +3,8 @@
 ghost use Rattle.std.specs.Prelude.{◌^◌, ◌<◌, IsTrue};
 ghost use Rattle.lgp_trace.specs.Phases.{all_phases};
 
-mod data;
-mod ends;
 mod growths;
-mod lines;
 mod optimum;
-mod origins;
 mod ranking;
 mod single;
 mod steps;
@@ -19,9 +15,10 @@ use lgp_table::Action;
 use lgp_trace::laws::{
     codes_pass, phases_read, phases_together, profiles, signs_are_word_times, words_stay,
 };
-use lgp_trace::{Account, Begun, Phases, Profile};
+use lgp_trace::{Account, Begun, Phases, Profile, profile_run};
 use lgp_word::{Address, Word};
 use std::alloc::Allocator;
+use steps::{debugger_of, start};
 
 /// The address of that number, or 0000 above all.
 pub(super) fn address(number: u16) -> Address {
@@ -238,15 +235,6 @@ fn shown<A: Allocator>(profile: &Profile<A>) -> Shown {
     ]
 }
 
-/// Adds an account to a profile that has no great number yet; false where it has.
-fn note<A: Allocator>(profile: &mut Profile<A>, account: &Account) -> bool {
-    let few = is_few(profile.phases()) && is_few(account.phases);
-    if few {
-        profile.note(account);
-    }
-    few
-}
-
 /// Whether each phase is below 2^32 word times.
 fn is_few(phases: Phases) -> bool
     ensures { IsTrue result → all_phases phases < 2 ^ 34 }
@@ -254,28 +242,12 @@ fn is_few(phases: Phases) -> bool
     phases.find < 1 << 32 && phases.take < 1 << 32 && phases.seek < 1 << 32 && phases.act < 1 << 32
 }
 
-/// Starts the machine, and adds up its activities up to the one that is refused.
-fn note_all<A: Allocator>(machine: &mut Machine<A>, profile: &mut Profile<A>) {
-    press(machine, Action::Start);
-    for _ in 0..100 {
-        if let Ok(account) = take(machine) {
-            note(profile, &account);
-        }
-    }
-}
-
 /// The profile of the program that sums a table; none where memory is refused.
 fn profile_of_a_sum<A: Allocator + Copy>(alloc: A) -> Option<Profile<A>> {
-    match with_words(alloc, SUM_OF_A_TABLE) {
-        Some(mut machine) => profile_of(alloc, &mut machine),
-        None => None,
-    }
-}
-
-/// The profile of a machine's program; none where memory is refused.
-fn profile_of<A: Allocator>(alloc: A, machine: &mut Machine<A>) -> Option<Profile<A>> {
+    let mut lab = debugger_of(alloc, 30)?;
+    start(&mut lab);
     let mut profile = Profile::new(alloc).ok()?;
-    note_all(machine, &mut profile);
+    let _ran = profile_run(&mut lab, 100, &mut profile);
     Some(profile)
 }
 

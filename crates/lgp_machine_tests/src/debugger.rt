@@ -3,6 +3,6 @@
 mod calls;
 mod growths;
 mod large;
-mod print;
+mod origins;
 mod rows;
 mod watched;

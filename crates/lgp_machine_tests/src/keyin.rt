@@ -1,25 +1,13 @@
 //! What an operator presses.
 
-use crate::expect_eq;
+use crate::{CLOCK_END, at, expect_eq, word};
 use lgp_flexo::{Code, code_of};
 use lgp_keyin::{KeyFault, actions_to_start, actions_to_store, key_in};
 use lgp_limited::Limited;
 use lgp_machine::{Look, Machine, Pressed};
 use lgp_table::{Action, Cause, Mode, Status, Switches};
-use lgp_word::{Address, Word, read_digits};
+use lgp_word::{Address, Word};
 use std::alloc::{Allocator, Global};
-
-const CLOCK_END: u64 = 1 << 62;
-
-/// The word of these digits, or 0 where they are none.
-fn word(digits: &[u8; 8]) -> Word {
-    read_digits(digits.as_slice()).unwrap_or_default()
-}
-
-/// The address of this text, or 0000 where it is none.
-fn at(text: &[u8; 4]) -> Address {
-    Address::parse(text.as_slice()).unwrap_or_default()
-}
 
 /// What a letter stands for in the texts below: a capital one for the mode or the button that it begins, any other sign for its
 /// key, or the stop key where none has it.
@@ -74,7 +62,7 @@ fn shows<A: Allocator>(
 }
 
 /// An address, and the word that is there.
-type Row = (&'static [u8; 4], &'static [u8; 8]);
+type Row = (&'static [u8], &'static [u8]);
 
 /// Whether a machine has these words.
 fn has_words<A: Allocator>(machine: &Machine<A>, rows: &[Row]) -> bool {
@@ -93,25 +81,17 @@ static AFTER_TWO: [Row; 3] = [
     (b"0102", b"00000000"),
 ];
 
-/// What there is where no word has been stored.
-static BLANK: [Row; 3] = [
-    (b"0000", b"00000000"),
-    (b"0001", b"00000000"),
-    (b"0002", b"00000000"),
-];
-
 #[test]
-fn what_is_pressed_to_store_a_word(rt: HostRuntime) {
-    expect_eq(
-        &rt,
+fn what_is_pressed_to_store_a_word_and_to_start_a_program(rt: HostRuntime) {
+    let pressed = (
         to_store(at(b"0100"), word(b"7wwwwwwq")),
-        b"M000j0100F7wwwwwwqOE".map(action_of),
+        to_start(at(b"6300")),
     );
-}
-
-#[test]
-fn what_is_pressed_to_start_a_program(rt: HostRuntime) {
-    expect_eq(&rt, to_start(at(b"6300")), b"M000f3w00FOENS".map(action_of));
+    let wanted = (
+        b"M000j0100F7wwwwwwqOE".map(action_of),
+        b"M000f3w00FOENS".map(action_of),
+    );
+    expect_eq(&rt, pressed, wanted);
 }
 
 /// The words that are keyed in.
@@ -154,23 +134,11 @@ fn keys_within<A: Allocator>(machine: &mut Machine<A>) -> [bool; 4] {
 }
 
 /// The three of them one after another on a new machine.
-type Three = ([bool; 4], [bool; 2], [bool; 4]);
-
-fn keyed_on_one<B: Allocator, A: Allocator + Copy>(
-    limited: &Limited<B>,
-    alloc: A,
-) -> Option<Three> {
-    match Machine::new(alloc) {
-        Ok(mut machine) => {
-            let two = keys_two_in(limited, &mut machine);
-            Some((
-                two,
-                keys_past_the_drum(&mut machine),
-                keys_within(&mut machine),
-            ))
-        }
-        Err(_) => None,
-    }
+fn keyed_on_one(limited: &Limited<Global>) -> Option<([bool; 4], [bool; 2], [bool; 4])> {
+    let mut machine = Machine::new(limited).ok()?;
+    let two = keys_two_in(limited, &mut machine);
+    let past = keys_past_the_drum(&mut machine);
+    Some((two, past, keys_within(&mut machine)))
 }
 
 /// Rests up to a clock, and keys a word in at 0000: whether a machine can rest, the clock's end is reported, the machine is before
@@ -185,7 +153,7 @@ fn keys_at_the_end<A: Allocator>(machine: &mut Machine<A>, clock: u64) -> [bool;
             Status::Executing,
             clock,
         ),
-        has_words(machine, &BLANK),
+        has_words(machine, &[(b"0000", b"00000000")]),
     ]
 }
 
@@ -200,7 +168,7 @@ fn keyed_at_the_end(global: Global) -> Option<[bool; 4]> {
 #[test]
 fn words_are_keyed_in_or_refused(rt: HostRuntime) {
     let limited = Limited::new(rt.alloc());
-    let keyed = keyed_on_one(&limited, &limited);
+    let keyed = keyed_on_one(&limited);
     let two = [true, false, true, true];
     expect_eq(
         &rt,

@@ -1,6 +1,6 @@
 //! Tapes and loads of small programs, by both loaders.
 
-use crate::expect_eq;
+use crate::{CLOCK_END, address, at, expect_eq, word};
 use lgp_assembler::{Image, assemble};
 use lgp_flexo::{Code, write_tape_text};
 use lgp_keyin::{actions_to_jump, key_in};
@@ -10,7 +10,7 @@ use lgp_loader::{
 };
 use lgp_machine::{Look, Machine};
 use lgp_table::{Action, Cause, Mode, Status, Switches};
-use lgp_word::{Address, Word, read_digits};
+use lgp_word::{Address, Word, write_digits};
 use std::alloc::{AllocError, Allocator, Global};
 
 mod growths;
@@ -18,8 +18,6 @@ mod loads;
 mod refusals;
 mod sizes;
 mod tapes;
-
-const CLOCK_END: u64 = 1 << 62;
 
 /// One word at 0100.
 const ONE_WORD: &[u8] = b" org 0100\n word 00000004\n end\n";
@@ -35,9 +33,6 @@ const FIVE_LINES: &[u8] = b"start b one ; take\n h 0050\n z\none frac .1\n end s
 
 /// No word, and no start.
 const NO_WORDS: &[u8] = b" end\n";
-
-/// Numbers that do not cut two words at 0100 and 0101 into blocks.
-static NO_CUTS: [&[usize]; 6] = [&[2, 0], &[0, 2], &[1], &[3], &[1, 1, 1], &[]];
 
 /// How a program is loaded: in the longest blocks, in blocks of these lengths, or cell by cell.
 #[derive(Clone, Copy)]
@@ -118,18 +113,10 @@ fn machine_at<A: Allocator + Copy>(alloc: A, stand: Stand) -> Option<Machine<A>>
     }
 }
 
-/// Whether the word at this place of the drum has these digits.
-fn has_word(machine: &Machine, place: &[u8], digits: &[u8]) -> bool {
-    match (Address::parse(place), read_digits(digits)) {
-        (Some(place), Some(word)) => machine.word(place) == word,
-        _ => false,
-    }
-}
-
 /// Whether the drum has these digits at these places.
 fn has_words(machine: &Machine, wanted: &[(&[u8], &[u8])]) -> bool {
     for (place, digits) in wanted {
-        if !has_word(machine, place, digits) {
+        if machine.word(at(place)) != word(digits) {
             return false;
         }
     }
@@ -139,13 +126,10 @@ fn has_words(machine: &Machine, wanted: &[(&[u8], &[u8])]) -> bool {
 /// A machine stopped at the boundary of this counter in Normal, with the reader off, and the word of these digits in accumulator
 /// and register.
 fn stopped(counter: &[u8], digits: &[u8], switches: Switches, clock: u64) -> Option<Look> {
-    let (Some(counter), Some(word)) = (Address::parse(counter), read_digits(digits)) else {
-        return None;
-    };
     Some(Look {
-        counter,
-        accumulator: word.get(),
-        register: word,
+        counter: at(counter),
+        accumulator: word(digits).get(),
+        register: word(digits),
         status: Status::Halted(Cause::Stop),
         mode: Mode::Normal,
         switches,
@@ -154,17 +138,16 @@ fn stopped(counter: &[u8], digits: &[u8], switches: Switches, clock: u64) -> Opt
     })
 }
 
-/// Whether the words of a loader have these digits.
-fn are_words(loader: &[Word], wanted: &[&[u8]]) -> bool {
-    let mut place = 0usize;
-    for digits in wanted {
-        let word = read_digits(digits);
-        if word.is_none() || loader.get(place) != word.as_ref() {
-            return false;
+/// Whether the words of a loader have these digits, each with a blank after it.
+fn are_words(loader: &[Word], wanted: &[u8]) -> bool {
+    let mut left = wanted;
+    for word in loader {
+        match left.strip_prefix(write_digits(*word).as_slice()) {
+            Some([b' ', rest @ ..]) => left = rest,
+            _ => return false,
         }
-        place = place.saturating_add(1);
     }
-    loader.len() == wanted.len()
+    left.is_empty()
 }
 
 /// A program, how it is loaded, and on which machine.
@@ -198,49 +181,18 @@ fn tape_length<A: Allocator + Copy>(alloc: A, image: &Image, way: Way) -> Result
     }
 }
 
-static BLOCK_LOADER: [&[u8]; 22] = [
-    b"00080000",
-    b"00040000",
-    b"000g3w48",
-    b"000j3w24",
-    b"00080000",
-    b"00040000",
-    b"000j3w54",
-    b"00080000",
-    b"00040000",
-    b"00000000",
-    b"00013w24",
-    b"000q3w50",
-    b"000j3w24",
-    b"00013w54",
-    b"000q3w50",
-    b"000j3w54",
-    b"000g3w1j",
-    b"000f3w00",
-    b"000j3w4j",
-    b"00000000",
-    b"00000004",
-    b"00000000",
-];
+const BLOCK_LOADER: &[u8] =
+    b"00080000 00040000 000g3w48 000j3w24 00080000 00040000 000j3w54 00080000 00040000 00000000 00013w24 \
+000q3w50 000j3w24 00013w54 000q3w50 000j3w54 000g3w1j 000f3w00 000j3w4j 00000000 00000004 00000000 ";
 
-static SINGLE_LOADER: [&[u8]; 10] = [
-    b"00080000",
-    b"00040000",
-    b"000g3w20",
-    b"000j3w18",
-    b"00080000",
-    b"00040000",
-    b"00000000",
-    b"000f3w00",
-    b"000j3w24",
-    b"00000000",
-];
+const SINGLE_LOADER: &[u8] =
+    b"00080000 00040000 000g3w20 000j3w18 00080000 00040000 00000000 000f3w00 000j3w24 00000000 ";
 
 #[test]
 fn the_words_of_the_loaders(rt: HostRuntime) {
     let found = [
-        are_words(&LOADER, &BLOCK_LOADER),
-        are_words(&LOADER_10, &SINGLE_LOADER),
+        are_words(&LOADER, BLOCK_LOADER),
+        are_words(&LOADER_10, SINGLE_LOADER),
     ];
     expect_eq(&rt, found, [true; 2]);
 }

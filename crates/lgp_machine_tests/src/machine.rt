@@ -1,13 +1,12 @@
 //! The machine by its calls.
 
 mod calls;
-mod drums;
 mod events;
 mod growths;
 mod marks;
 mod sizes;
 
-use crate::expect_eq;
+use crate::{CLOCK_END, PRINT, TRANSFER, address};
 use lgp_flexo::{Code, read_tape_text};
 use lgp_machine::{
     Look, Machine, MountFault, OrderFault, PlayFault, PressFault, Pressed, PutFault, RestFault,
@@ -16,17 +15,6 @@ use lgp_machine::{
 use lgp_table::{Action, Event, Mode, Status, Switches};
 use lgp_word::{Address, Op, Word};
 use std::alloc::{Allocator, Global};
-
-const CLOCK_END: u64 = 1 << 62;
-
-/// A transfer to itself.
-const TRANSFER: u32 = 0x000a_0000;
-
-/// An order that prints code 57.
-const PRINT: u32 = 0x0008_3900;
-
-/// An order that switches the reader on, and an input.
-const INPUT: [(u16, u32); 2] = [(0, 0x0008_0000), (1, 0x0004_0000)];
 
 // The machine's methods without their contracts, which would fill the context of each test.
 
@@ -115,11 +103,6 @@ fn parts_at<A: Allocator>(machine: &Machine<A>, at: u16) -> (bool, Op, Address) 
     machine.parts(address(at))
 }
 
-/// The address of that number, or 0000 above all.
-fn address(number: u16) -> Address {
-    Address::new(number).unwrap_or_default()
-}
-
 /// What shows in Normal, with all switches up and the reader off.
 fn shown(
     counter: u16,
@@ -138,13 +121,6 @@ fn shown(
         reader_on: false,
         clock,
     })
-}
-
-/// What shows after the order that switches the reader on.
-fn shown_at_input() -> Option<Look> {
-    let mut look = shown(1, 0, 0x0008_0000, Status::Going, 67)?;
-    look.reader_on = true;
-    Some(look)
 }
 
 /// Puts words on the drum; whether all were put.
@@ -192,24 +168,36 @@ fn with_words<A: Allocator + Copy>(alloc: A, words: &[(u16, u32)]) -> Option<Mac
     if_ready(machine, ready)
 }
 
-/// A machine with these words, started.
+/// The same, started.
 fn started<A: Allocator + Copy>(alloc: A, words: &[(u16, u32)]) -> Option<Machine<A>> {
-    let mut machine = Machine::new(alloc).ok()?;
-    let ready = put_all(&mut machine, words) && start(&mut machine);
+    let mut machine = with_words(alloc, words)?;
+    let ready = start(&mut machine);
     if_ready(machine, ready)
 }
 
-/// A machine with these words and the tape of a text, started.
+/// The same with the tape of a text.
 fn with_tape<A: Allocator + Copy>(
     alloc: A,
     words: &[(u16, u32)],
     text: &[u8],
 ) -> Option<Machine<A>> {
-    let mut machine = Machine::new(alloc).ok()?;
-    let ready = put_all(&mut machine, words)
-        && mount_text(&mut machine, alloc, text)
-        && start(&mut machine);
+    let mut machine = with_words(alloc, words)?;
+    let ready = mount_text(&mut machine, alloc, text) && start(&mut machine);
     if_ready(machine, ready)
+}
+
+/// A print, and then an input.
+const PRINT_AND_INPUT: [(u16, u32); 3] = [(0, PRINT), (1, 0x0008_0000), (2, 0x0004_0000)];
+
+/// A machine that has printed a code, and has read three of five codes.
+pub fn within_a_tape<A: Allocator + Copy>(alloc: A) -> Option<Machine<A>> {
+    let mut machine = with_tape(alloc, &PRINT_AND_INPUT, b"12'3'")?;
+    let ready = [
+        next_order(&mut machine).is_ok(),
+        next_order(&mut machine).is_ok(),
+        next_order(&mut machine).is_ok(),
+    ];
+    if_ready(machine, ready == [true; 3])
 }
 
 /// A transfer to itself, one word time after its start.

@@ -2,91 +2,23 @@
 
 mod bench;
 
-use crate::expect_eq;
-use bench::{Bench, CASE, Case, END, End, Performed, UP, Way, at, perform_all, perform_each};
+use crate::{End as Ended, at, expect_eq, in_turn};
+use bench::{Bench, CASE, Case, Cell, End, NO_TAPE, UP, Way, perform_all};
 use lgp_flexo::Code;
+use lgp_limited::Limited;
 use lgp_phases::{Outcome, Processor, Progress, act_time, seek_time, wait};
 use lgp_reader::Reader;
 use lgp_table::{Cause, Mode, Status, Switches};
 use lgp_word::{Address, Op};
-use linked_list_allocator::LocalHeap;
 use std::alloc::{Allocator, Global};
 
-/// A load, a sum, a store and a stop.
-const SUM: Case = Case {
-    cells: &[
-        (*b"0000", *b"000100j8"),
-        (*b"0001", *b"000q00jj"),
-        (*b"0002", *b"000j00k0"),
-        (*b"0050", *b"00000006"),
-        (*b"0051", *b"0000000f"),
-    ],
-    ends: &[
-        End {
-            clock: 67,
-            register: *b"000100j8",
-            accumulator: 6,
-            ..END
-        },
-        End {
-            clock: 76,
-            counter: *b"0002",
-            register: *b"000q00jj",
-            accumulator: 16,
-            ..END
-        },
-        End {
-            clock: 85,
-            counter: *b"0003",
-            register: *b"000j00k0",
-            accumulator: 16,
-            ..END
-        },
-        End {
-            clock: 94,
-            status: Status::Halted(Cause::Stop),
-            counter: *b"0004",
-            accumulator: 16,
-            ..END
-        },
-    ],
-    stored: (*b"0052", *b"00000010"),
-    ..CASE
-};
+const GOING: Status = Status::Going;
 
-/// Performs that over a heap of a given size; `None` where there is none.
-fn perform_sum_within(global: Global, size: usize) -> Option<Performed> {
-    let heap = LocalHeap::new(global, size).ok()?;
-    Some(perform_all(&heap, &SUM))
-}
+const STOPPED: Status = Status::Halted(Cause::Stop);
 
-#[test]
-fn a_sum_is_stored_over_a_small_heap(rt: HostRuntime) {
-    expect_eq(&rt, perform_sum_within(rt.alloc(), 262144), Some(Ok(())));
-}
+const STEPPED: Status = Status::Halted(Cause::Step);
 
-/// Two loads that wait long.
-static WAITS: [Case; 2] = [
-    Case {
-        cells: &[(*b"0000", *b"000100j8")],
-        ends: &[End {
-            clock: 67,
-            register: *b"000100j8",
-            ..END
-        }],
-        ..CASE
-    },
-    Case {
-        cells: &[(*b"0000", *b"00010000")],
-        ends: &[End {
-            clock: 129,
-            register: *b"00010000",
-            accumulator: 0x10000,
-            ..END
-        }],
-        ..CASE
-    },
-];
+const OPERATOR: Status = Status::Halted(Cause::Operator);
 
 /// The clock at which a sector is read.
 fn read_at(sector: u16, clock: u64, after: u64) -> Option<u64> {
@@ -94,28 +26,6 @@ fn read_at(sector: u16, clock: u64, after: u64) -> Option<u64> {
         return None;
     }
     Some(clock + after + wait(sector, clock, after))
-}
-
-#[test]
-fn orders_wait_for_their_sectors(rt: HostRuntime) {
-    expect_eq(
-        &rt,
-        [read_at(1, 67, 0), read_at(1, 129, 0), read_at(1, 60, 69)],
-        [Some(73), Some(137), Some(137)],
-    );
-}
-
-#[test]
-fn the_seek_takes_its_word_times(rt: HostRuntime) {
-    expect_eq(
-        &rt,
-        [
-            seek_time(Op::B, at(b"0050"), 65, 0),
-            seek_time(Op::B, at(b"0000"), 60, 5),
-            seek_time(Op::Z, at(b"0000"), 65, 0),
-        ],
-        [1, 63, 1],
-    );
 }
 
 /// The word times of the last phase of five orders, without a tape.
@@ -131,9 +41,44 @@ fn act_times(global: Global) -> [u64; 5] {
 }
 
 #[test]
-fn the_last_phase_takes_its_word_times(rt: HostRuntime) {
-    expect_eq(&rt, act_times(rt.alloc()), [1, 65, 1, 385, 1]);
+fn phases_take_their_word_times(rt: HostRuntime) {
+    let read = [read_at(1, 67, 0), read_at(1, 129, 0), read_at(1, 60, 69)];
+    let sought = [
+        seek_time(Op::B, at(b"0050"), 65, 0),
+        seek_time(Op::B, at(b"0000"), 60, 5),
+        seek_time(Op::Z, at(b"0000"), 65, 0),
+    ];
+    expect_eq(
+        &rt,
+        (read, sought, act_times(rt.alloc())),
+        (
+            [Some(73), Some(137), Some(137)],
+            [1, 63, 1],
+            [1, 65, 1, 385, 1],
+        ),
+    );
 }
+
+/// A load, a sum, a store and a stop.
+const SUM: Case = Case {
+    cells: &[
+        (*b"0000", *b"000100j8"),
+        (*b"0001", *b"000q00jj"),
+        (*b"0002", *b"000j00k0"),
+        (*b"0050", *b"00000006"),
+        (*b"0051", *b"0000000f"),
+    ],
+    ends: &[
+        (67, GOING, *b"0001", *b"000100j8", 6, NO_TAPE),
+        (76, GOING, *b"0002", *b"000q00jj", 16, NO_TAPE),
+        (85, GOING, *b"0003", *b"000j00k0", 16, NO_TAPE),
+        (94, STOPPED, *b"0004", *b"00000000", 16, NO_TAPE),
+    ],
+    stored: (*b"0052", *b"00000010"),
+    ..CASE
+};
+
+const OVERFLOWED: Status = Status::Halted(Cause::Overflow);
 
 /// A sum above the largest fraction.
 const OVERFLOW: Case = Case {
@@ -144,20 +89,8 @@ const OVERFLOW: Case = Case {
         (*b"0051", *b"00000002"),
     ],
     ends: &[
-        End {
-            clock: 67,
-            register: *b"000100j8",
-            accumulator: 0x7fff_fffe,
-            ..END
-        },
-        End {
-            clock: 76,
-            status: Status::Halted(Cause::Overflow),
-            counter: *b"0002",
-            register: *b"000q00jj",
-            accumulator: 0x8000_0000,
-            ..END
-        },
+        (67, GOING, *b"0001", *b"000100j8", 0x7fff_fffe, NO_TAPE),
+        (76, OVERFLOWED, *b"0002", *b"000q00jj", 1 << 31, NO_TAPE),
     ],
     ..CASE
 };
@@ -172,26 +105,9 @@ const ADDRESS: Case = Case {
         (*b"0100", *b"00000022"),
     ],
     ends: &[
-        End {
-            clock: 67,
-            register: *b"000100j8",
-            accumulator: 0x100,
-            ..END
-        },
-        End {
-            clock: 83,
-            counter: *b"0002",
-            register: *b"00020008",
-            accumulator: 0x100,
-            ..END
-        },
-        End {
-            clock: 193,
-            counter: *b"0003",
-            register: *b"00010100",
-            accumulator: 0x22,
-            ..END
-        },
+        (67, GOING, *b"0001", *b"000100j8", 0x100, NO_TAPE),
+        (83, GOING, *b"0002", *b"00020008", 0x100, NO_TAPE),
+        (193, GOING, *b"0003", *b"00010100", 0x22, NO_TAPE),
     ],
     stored: (*b"0002", *b"00010100"),
     ..CASE
@@ -206,242 +122,219 @@ const REPLACED: Case = Case {
         (*b"0050", *b"000f0000"),
     ],
     ends: &[
-        End {
-            clock: 67,
-            register: *b"000100j8",
-            accumulator: 0x000a_0000,
-            ..END
-        },
-        End {
-            clock: 138,
-            counter: *b"0002",
-            register: *b"000k0004",
-            ..END
-        },
-        End {
-            clock: 149,
-            register: *b"000f0004",
-            ..END
-        },
-        End {
-            clock: 204,
-            counter: *b"0000",
-            register: *b"000f0000",
-            ..END
-        },
+        (67, GOING, *b"0001", *b"000100j8", 0xa_0000, NO_TAPE),
+        (138, GOING, *b"0002", *b"000k0004", 0, NO_TAPE),
+        (149, GOING, *b"0001", *b"000f0004", 0, NO_TAPE),
+        (204, GOING, *b"0000", *b"000f0000", 0, NO_TAPE),
     ],
     stored: (*b"0001", *b"000f0000"),
     ..CASE
 };
 
-/// Return addresses, the last one after the last word of the drum.
-static RETURNS: [Case; 2] = [
-    Case {
-        cells: &[
-            (*b"0100", *b"00030128"),
-            (*b"0101", *b"000f0128"),
-            (*b"0110", *b"000f0000"),
-        ],
-        counter: *b"0100",
-        ends: &[
-            End {
-                clock: 91,
-                counter: *b"0101",
-                register: *b"00030128",
-                ..END
-            },
-            End {
-                clock: 140,
-                counter: *b"0110",
-                register: *b"000f0128",
-                ..END
-            },
-            End {
-                clock: 157,
-                counter: *b"0102",
-                register: *b"000f0108",
-                ..END
-            },
-        ],
-        stored: (*b"0110", *b"000f0108"),
-        ..CASE
-    },
-    Case {
-        cells: &[(*b"6363", *b"00030000"), (*b"0000", *b"000f0000")],
-        counter: *b"6363",
-        ends: &[End {
-            clock: 65,
-            counter: *b"0000",
-            register: *b"00030000",
-            ..END
-        }],
-        stored: (*b"0000", *b"000f0004"),
-        ..CASE
-    },
-];
-
-/// A break point at track 32, with the switch down and up.
-static BREAK_POINTS: [Case; 2] = [
-    Case {
-        switches: Switches { b32: true, ..UP },
-        ends: &[AT_BREAK_POINT],
-        ..BREAK_POINT
-    },
-    Case {
-        ends: &[End {
-            status: Status::Halted(Cause::Stop),
-            ..AT_BREAK_POINT
-        }],
-        ..BREAK_POINT
-    },
-];
-
-const BREAK_POINT: Case = Case {
-    cells: &[(*b"0000", *b"00002000")],
+/// A return address.
+const RETURN: Case = Case {
+    cells: &[
+        (*b"0100", *b"00030128"),
+        (*b"0101", *b"000f0128"),
+        (*b"0110", *b"000f0000"),
+    ],
+    counter: *b"0100",
+    ends: &[
+        (91, GOING, *b"0101", *b"00030128", 0, NO_TAPE),
+        (140, GOING, *b"0110", *b"000f0128", 0, NO_TAPE),
+        (157, GOING, *b"0102", *b"000f0108", 0, NO_TAPE),
+    ],
+    stored: (*b"0110", *b"000f0108"),
     ..CASE
 };
 
-const AT_BREAK_POINT: End = End {
-    clock: 67,
-    register: *b"00002000",
-    ..END
-};
-
-/// Orders with a word at 0050, of which the first four take a revolution more.
-static SUMS: [Case; 6] = [
-    Case {
-        cells: &[(*b"0000", *b"000500j8"), (*b"0050", *b"00000006")],
-        accumulator: 2,
-        ends: &[End {
-            clock: 131,
-            register: *b"000500j8",
-            accumulator: 0x2aaa_aaaa,
-            ..END
-        }],
-        ..CASE
-    },
-    Case {
-        cells: &[(*b"0000", *b"000600j8"), (*b"0050", *b"0000000f")],
-        accumulator: 6,
-        ends: &[End {
-            clock: 131,
-            register: *b"000600j8",
-            accumulator: 0x3c,
-            ..END
-        }],
-        ..CASE
-    },
-    Case {
-        cells: &[(*b"0000", *b"000700j8"), (*b"0050", *b"0000000f")],
-        accumulator: 6,
-        ends: &[End {
-            clock: 131,
-            register: *b"000700j8",
-            accumulator: 0,
-            ..END
-        }],
-        ..CASE
-    },
-    Case {
-        cells: &[(*b"0000", *b"000700j8"), (*b"0050", *b"00000002")],
-        accumulator: 0xffff_fffe,
-        ends: &[End {
-            clock: 131,
-            register: *b"000700j8",
-            accumulator: 0xffff_fffe,
-            ..END
-        }],
-        ..CASE
-    },
-    Case {
-        cells: &[(*b"0000", *b"000900j8"), (*b"0050", *b"0000000q")],
-        accumulator: 0x1d,
-        ends: &[End {
-            clock: 67,
-            register: *b"000900j8",
-            accumulator: 0xc,
-            ..END
-        }],
-        ..CASE
-    },
-    Case {
-        cells: &[(*b"0000", *b"000w00j8"), (*b"0050", *b"00000006")],
-        accumulator: 10,
-        ends: &[End {
-            clock: 67,
-            register: *b"000w00j8",
-            accumulator: 4,
-            ..END
-        }],
-        ..CASE
-    },
-];
-
-/// Tests, which transfer by the accumulator's sign or by TRANSFER CONTROL.
-static TESTS: [Case; 4] = [
-    Case {
-        cells: &[(*b"0000", *b"800g0100")],
-        ends: &[End {
-            clock: 67,
-            counter: *b"0001",
-            register: *b"800g0100",
-            ..END
-        }],
-        ..CASE
-    },
-    Case {
-        cells: &[(*b"0000", *b"800g0100")],
-        switches: TRANSFER,
-        ends: &[End {
-            clock: 67,
-            counter: *b"0100",
-            register: *b"800g0100",
-            ..END
-        }],
-        ..CASE
-    },
-    Case {
-        cells: &[(*b"0000", *b"000g0100")],
-        switches: TRANSFER,
-        ends: &[End {
-            clock: 67,
-            counter: *b"0001",
-            register: *b"000g0100",
-            ..END
-        }],
-        ..CASE
-    },
-    Case {
-        cells: &[(*b"0000", *b"000g0100")],
-        accumulator: 0x8000_0000,
-        ends: &[End {
-            clock: 67,
-            counter: *b"0100",
-            register: *b"000g0100",
-            accumulator: 0x8000_0000,
-            ..END
-        }],
-        ..CASE
-    },
-];
-
-/// TRANSFER CONTROL is down.
-const TRANSFER: Switches = Switches {
-    transfer: true,
-    ..UP
+/// A return address after the last word of the drum.
+const LAST_RETURN: Case = Case {
+    cells: &[(*b"6363", *b"00030000"), (*b"0000", *b"000f0000")],
+    counter: *b"6363",
+    ends: &[(65, GOING, *b"0000", *b"00030000", 0, NO_TAPE)],
+    stored: (*b"0000", *b"000f0004"),
+    ..CASE
 };
 
 /// The code 57, printed.
 const PRINT: Case = Case {
     cells: &[(*b"0000", *b"00083900")],
-    ends: &[End {
-        clock: 451,
-        register: *b"00083900",
-        printed: Some(57),
-        ..END
-    }],
+    ends: &[(451, GOING, *b"0001", *b"00083900", 0, (Some(57), false, 0))],
     ..CASE
 };
+
+/// A load in the instruction register.
+const EXECUTED: Case = Case {
+    cells: &[(*b"0050", *b"00000006")],
+    register: *b"000100j8",
+    status: Status::Executing,
+    ends: &[(3, STEPPED, *b"0000", *b"000100j8", 6, NO_TAPE)],
+    ..CASE
+};
+
+static PROGRAMS: [Case; 8] = [
+    SUM,
+    OVERFLOW,
+    ADDRESS,
+    REPLACED,
+    RETURN,
+    LAST_RETURN,
+    PRINT,
+    EXECUTED,
+];
+
+/// BREAK POINT 32 down, TRANSFER CONTROL down, and 6 BIT INPUT down.
+const BREAK_32: Switches = Switches { b32: true, ..UP };
+
+const TRANSFER: Switches = Switches {
+    transfer: true,
+    ..UP
+};
+
+const SIX_BIT: Switches = Switches {
+    six_bit: true,
+    ..UP
+};
+
+/// An order at 0000, the word at 0050, the accumulator and the switches; and the status, the clock, the counter and the accumulator
+/// after the order.
+type Single = (
+    &'static [u8; 8],
+    &'static [u8; 8],
+    u32,
+    Switches,
+    (Status, u64, &'static [u8; 4], u32),
+);
+
+/// Two loads that wait long; arithmetic, of which the first four take a revolution more; a part of a word and a difference; tests by
+/// the accumulator's sign or by TRANSFER CONTROL; and a stop with its break point.
+static SINGLES: [Single; 14] = [
+    (b"000100j8", ZERO, 0, UP, (GOING, 67, b"0001", 0)),
+    (b"00010000", ZERO, 0, UP, (GOING, 129, b"0001", 0x10000)),
+    (b"000500j8", SIX, 2, UP, (GOING, 131, b"0001", 0x2aaa_aaaa)),
+    (b"000600j8", TEN, 6, UP, (GOING, 131, b"0001", 0x3c)),
+    (b"000700j8", TEN, 6, UP, (GOING, 131, b"0001", 0)),
+    (b"000700j8", TWO, LAST, UP, (GOING, 131, b"0001", LAST)),
+    (b"000900j8", MASK, 0x1d, UP, (GOING, 67, b"0001", 0xc)),
+    (b"000w00j8", SIX, 10, UP, (GOING, 67, b"0001", 4)),
+    (b"800g0100", ZERO, 0, UP, (GOING, 67, b"0001", 0)),
+    (b"800g0100", ZERO, 0, TRANSFER, (GOING, 67, b"0100", 0)),
+    (b"000g0100", ZERO, 0, TRANSFER, (GOING, 67, b"0001", 0)),
+    (b"000g0100", ZERO, LAST, UP, (GOING, 67, b"0100", LAST)),
+    (b"00002000", ZERO, 0, BREAK_32, (GOING, 67, b"0001", 0)),
+    (b"00002000", ZERO, 0, UP, (STOPPED, 67, b"0001", 0)),
+];
+
+const ZERO: &[u8; 8] = b"00000000";
+
+const TWO: &[u8; 8] = b"00000002";
+
+const SIX: &[u8; 8] = b"00000006";
+
+const TEN: &[u8; 8] = b"0000000f";
+
+const MASK: &[u8; 8] = b"0000000q";
+
+const LAST: u32 = 0xffff_fffe;
+
+/// Whether an order goes so in each way.
+fn is_single(
+    alloc: Global,
+    (order, word, accumulator, switches, (status, clock, counter, after)): Single,
+) -> bool {
+    let case = Case {
+        cells: &[(*b"0000", *order), (*b"0050", *word)],
+        accumulator,
+        switches,
+        ends: &[(clock, status, *counter, *order, after, NO_TAPE)],
+        ..CASE
+    };
+    perform_all(alloc, &case).is_ok()
+}
+
+/// A tape, the switches, and the clock, the status, the accumulator and the codes left after the input at 0001.
+type Input = (&'static [u8], Switches, u64, Status, u32);
+
+/// Tapes that are read up to their stops or to their ends, the last one by six bits.
+static INPUTS: [Input; 3] = [
+    (b"12[16]3'", UP, 1996, GOING, 0x123),
+    (b"12[16]3", UP, 1612, Status::Waiting, 0x123),
+    (b"a'", SIX_BIT, 844, GOING, 0x39),
+];
+
+/// An order that switches the reader on, and an input.
+const READING: [Cell; 2] = [(*b"0000", *b"00080000"), (*b"0001", *b"00040000")];
+
+/// Whether a tape of a given number of codes is read so in each way.
+fn is_input(alloc: Global, (tape, switches, clock, status, read): Input, codes: usize) -> bool {
+    let case = Case {
+        cells: &READING,
+        tape,
+        switches,
+        ends: &[
+            (67, GOING, *b"0001", *b"00080000", 0, (None, true, codes)),
+            (clock, status, *b"0002", *b"00040000", read, NO_TAPE),
+        ],
+        ..CASE
+    };
+    perform_all(alloc, &case).is_ok()
+}
+
+/// A tape, the status and the mode; and the clock, the status, the accumulator and the codes left after one activity.
+type Console = (&'static [u8], Status, Mode, (u64, Status, u32, usize));
+
+const READS: Status = Status::Reading;
+
+/// Tapes that are read from the console in each mode, the last two without a stop; and a word time where the machine has halted, and
+/// one where it waits.
+static CONSOLE: [Console; 7] = [
+    (b"12'3", READS, Mode::Normal, (1153, GOING, 0x12, 1)),
+    (b"12'3", READS, Mode::OneOperation, (1153, STEPPED, 0x12, 1)),
+    (b"12'3", READS, Mode::Manual, (1153, OPERATOR, 0x12, 1)),
+    (b"12", READS, Mode::OneOperation, (769, WAITS, 0x12, 0)),
+    (b"12", READS, Mode::Manual, (769, OPERATOR, 0x12, 0)),
+    (b"", OPERATOR, Mode::Normal, (1, OPERATOR, 0, 0)),
+    (b"", WAITS, Mode::Normal, (1, WAITS, 0, 0)),
+];
+
+const WAITS: Status = Status::Waiting;
+
+/// Whether an activity from the console goes so in each way.
+fn is_console(
+    alloc: Global,
+    (tape, status, mode, (clock, after, accumulator, left)): Console,
+) -> bool {
+    let taped = (None, false, left);
+    let case = Case {
+        tape,
+        status,
+        mode,
+        ends: &[(clock, after, *b"0000", *b"00000000", accumulator, taped)],
+        ..CASE
+    };
+    perform_all(alloc, &case).is_ok()
+}
+
+#[test]
+fn worked_orders(rt: HostRuntime) {
+    let alloc = rt.alloc();
+    for case in &PROGRAMS {
+        expect_eq(&rt, perform_all(alloc, case), Ok(()));
+    }
+    for row in &SINGLES {
+        expect_eq(&rt, (row.0, is_single(alloc, *row)), (row.0, true));
+    }
+    for row in &CONSOLE {
+        expect_eq(&rt, (row.3, is_console(alloc, *row)), (row.3, true));
+    }
+    let inputs = [
+        is_input(alloc, INPUTS[0], 5),
+        is_input(alloc, INPUTS[1], 4),
+        is_input(alloc, INPUTS[2], 2),
+    ];
+    expect_eq(&rt, inputs, [true; 3]);
+}
 
 /// Whether all but the last word time of a print pass as they should, whether the processor could be copied, whether the last one,
 /// of the copy, is predicted to print, and that one.
@@ -457,7 +350,7 @@ fn last_of_a_print(global: Global) -> Option<([bool; 3], Progress)> {
 fn the_last_word_time_prints(rt: HostRuntime) {
     let outcome = Outcome {
         cost: 451,
-        status: Status::Going,
+        status: GOING,
         printed: Code::new(57),
     };
     expect_eq(
@@ -465,201 +358,6 @@ fn the_last_word_time_prints(rt: HostRuntime) {
         last_of_a_print(rt.alloc()),
         Some(([true; 3], Progress::Done(outcome))),
     );
-}
-
-/// Switches the reader on, and performs an input.
-const INPUT: Case = Case {
-    cells: &[(*b"0000", *b"00080000"), (*b"0001", *b"00040000")],
-    ..CASE
-};
-
-/// Tapes that are read up to their stops or to their ends, the last one by six bits.
-static INPUTS: [Case; 3] = [
-    Case {
-        tape: b"12[16]3'",
-        ends: &[
-            End { left: 5, ..STARTED },
-            End {
-                clock: 1996,
-                counter: *b"0002",
-                register: *b"00040000",
-                accumulator: 0x123,
-                ..END
-            },
-        ],
-        ..INPUT
-    },
-    Case {
-        tape: b"12[16]3",
-        ends: &[
-            End { left: 4, ..STARTED },
-            End {
-                clock: 1612,
-                status: Status::Waiting,
-                counter: *b"0002",
-                register: *b"00040000",
-                accumulator: 0x123,
-                ..END
-            },
-        ],
-        ..INPUT
-    },
-    Case {
-        tape: b"a'",
-        switches: Switches {
-            six_bit: true,
-            ..UP
-        },
-        ends: &[
-            End { left: 2, ..STARTED },
-            End {
-                clock: 844,
-                counter: *b"0002",
-                register: *b"00040000",
-                accumulator: 0x39,
-                ..END
-            },
-        ],
-        ..INPUT
-    },
-];
-
-/// The reader has been switched on.
-const STARTED: End = End {
-    clock: 67,
-    register: *b"00080000",
-    is_on: true,
-    ..END
-};
-
-/// Tapes that are read from the console in each mode, the last two without a stop.
-static READ: [Case; 5] = [
-    Case {
-        tape: b"12'3",
-        status: Status::Reading,
-        ends: &[End {
-            clock: 1153,
-            counter: *b"0000",
-            accumulator: 0x12,
-            left: 1,
-            ..END
-        }],
-        ..CASE
-    },
-    Case {
-        tape: b"12'3",
-        status: Status::Reading,
-        mode: Mode::OneOperation,
-        ends: &[End {
-            clock: 1153,
-            status: Status::Halted(Cause::Step),
-            counter: *b"0000",
-            accumulator: 0x12,
-            left: 1,
-            ..END
-        }],
-        ..CASE
-    },
-    Case {
-        tape: b"12'3",
-        status: Status::Reading,
-        mode: Mode::Manual,
-        ends: &[End {
-            clock: 1153,
-            status: Status::Halted(Cause::Operator),
-            counter: *b"0000",
-            accumulator: 0x12,
-            left: 1,
-            ..END
-        }],
-        ..CASE
-    },
-    Case {
-        tape: b"12",
-        status: Status::Reading,
-        mode: Mode::OneOperation,
-        ends: &[End {
-            clock: 769,
-            status: Status::Waiting,
-            counter: *b"0000",
-            accumulator: 0x12,
-            ..END
-        }],
-        ..CASE
-    },
-    Case {
-        tape: b"12",
-        status: Status::Reading,
-        mode: Mode::Manual,
-        ends: &[End {
-            clock: 769,
-            status: Status::Halted(Cause::Operator),
-            counter: *b"0000",
-            accumulator: 0x12,
-            ..END
-        }],
-        ..CASE
-    },
-];
-
-/// A load in the instruction register.
-const EXECUTED: Case = Case {
-    cells: &[(*b"0050", *b"00000006")],
-    register: *b"000100j8",
-    status: Status::Executing,
-    ends: &[End {
-        clock: 3,
-        status: Status::Halted(Cause::Step),
-        counter: *b"0000",
-        register: *b"000100j8",
-        accumulator: 6,
-        ..END
-    }],
-    ..CASE
-};
-
-/// A word time where the machine has halted, and one where it waits.
-static RESTS: [Case; 2] = [
-    Case {
-        status: Status::Halted(Cause::Operator),
-        ends: &[End {
-            clock: 1,
-            status: Status::Halted(Cause::Operator),
-            counter: *b"0000",
-            ..END
-        }],
-        ..CASE
-    },
-    Case {
-        status: Status::Waiting,
-        ends: &[End {
-            clock: 1,
-            status: Status::Waiting,
-            counter: *b"0000",
-            ..END
-        }],
-        ..CASE
-    },
-];
-
-/// The other cases.
-static OTHERS: [Case; 6] = [SUM, OVERFLOW, ADDRESS, REPLACED, PRINT, EXECUTED];
-
-#[test]
-fn worked_orders(rt: HostRuntime) {
-    let alloc = rt.alloc();
-    let performed = [
-        perform_each(alloc, &OTHERS),
-        perform_each(alloc, &WAITS),
-        perform_each(alloc, &RETURNS),
-        perform_each(alloc, &BREAK_POINTS),
-        perform_each(alloc, &SUMS),
-        perform_each(alloc, &TESTS),
-        perform_each(alloc, &RESTS),
-        perform_each(alloc, &INPUTS),
-        perform_each(alloc, &READ),
-    ];
-    expect_eq(&rt, performed, [Ok(()); 9]);
 }
 
 /// What is decoded at 0000 and at 0001.
@@ -715,53 +413,38 @@ fn orders_are_kept_decoded(rt: HostRuntime) {
     );
 }
 
-/// Whether a processor can be made.
-fn is_made(heap: &LocalHeap) -> bool {
-    Processor::new(heap).is_ok()
-}
-
-/// Whether a copy can be made and has begun nothing.
-fn is_copied(processor: &Processor<&LocalHeap>) -> bool {
-    match processor.copy() {
-        Ok(copy) => copy.is_idle(),
-        Err(_) => false,
+/// How the making of a processor ends, which has begun nothing.
+fn made<A: Allocator + Copy>(alloc: A) -> Ended {
+    match Processor::new(alloc) {
+        Ok(processor) if processor.is_idle() => Ended::Done,
+        Ok(_) => Ended::Otherwise,
+        Err(_) => Ended::Refused,
     }
 }
 
-/// Whether a processor can be made, or a given one copied, where the heap has no room.
-fn is_made_without_room(heap: &LocalHeap, given: Option<&Processor<&LocalHeap>>) -> Option<bool> {
-    let filler: Vec<u8, &LocalHeap> = Vec::with_capacity(heap, heap.free()).ok()?;
-    let made = match given {
-        Some(processor) => processor.copy().is_ok(),
-        None => is_made(heap),
-    };
-    drop(filler);
-    Some(made)
+/// How a copy of an idle one ends.
+fn copied<A: Allocator + Clone>(processor: &Processor<A>) -> Ended {
+    match processor.copy() {
+        Ok(copy) if copy.is_idle() => Ended::Done,
+        Ok(_) => Ended::Otherwise,
+        Err(_) => Ended::Refused,
+    }
 }
 
-/// Whether a processor is copied without room and with it, is idle, as its copy is, and leaves as much in the heap as before.
-fn copies(heap: &LocalHeap) -> Option<(Option<bool>, [bool; 3])> {
-    let processor = Processor::new(heap).ok()?;
-    let before = heap.used();
-    let copied = is_made_without_room(heap, Some(&processor));
-    let idle = [processor.is_idle(), is_copied(&processor)];
-    Some((copied, [idle[0], idle[1], heap.used() == before]))
-}
-
-/// Whether a processor is made without room, how much is then in the heap, and what becomes of copies with room and without.
-type Full = (Option<bool>, usize, Option<(Option<bool>, [bool; 3])>);
-
-fn within_full_heap(global: Global) -> Option<Full> {
-    let heap = LocalHeap::new(global, 262144).ok()?;
-    let made = is_made_without_room(&heap, None);
-    Some((made, heap.used(), copies(&heap)))
+/// How many growths a processor and its copy have, each of which is refused in turn, and how many blocks are out at last.
+fn growths_of_processors(global: Global) -> Option<([Option<u64>; 2], u64)> {
+    let limited = Limited::new(global);
+    let made = in_turn(&limited, || made(&limited));
+    let processor = Processor::new(&limited).ok()?;
+    let copied = in_turn(&limited, || copied(&processor));
+    Some(([made, copied], limited.blocks_out()))
 }
 
 #[test]
-fn a_full_heap_refuses_a_processor(rt: HostRuntime) {
+fn each_growth_of_a_processor_is_refused(rt: HostRuntime) {
     expect_eq(
         &rt,
-        within_full_heap(rt.alloc()),
-        Some((Some(false), 0, Some((Some(false), [true; 3])))),
+        growths_of_processors(rt.alloc()),
+        Some(([Some(1); 2], 1)),
     );
 }

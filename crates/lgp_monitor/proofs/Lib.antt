@@ -7,3 +7,4 @@ pub mod OperatingLemmas
 pub mod Decimals
 pub mod ClosingLemmas
 pub mod ScaleLaws
+pub mod FormLemmas

@@ -9,7 +9,7 @@ use Rattle.lgp_command.specs.Sayable.{IsSayable}
 use Rattle.lgp_command.specs.declared.command.Command.{Command}
 use Rattle.lgp_command.specs.declared.command.Command.TheVariants as commands
 use Rattle.lgp_debugger.specs.Debugging.{order_origins}
-use Rattle.lgp_trace.specs.declared.form.Form.{Form}
+use Rattle.lgp_monitor.specs.declared.telling.Report.{Report}
 use Rattle.lgp_script.specs.HistoryCommands.{orders_run, replied_to_run}
 use Rattle.lgp_script.specs.LabState.{Answer, LabState, labels_of}
 use Rattle.lgp_script.specs.Reply.{IsReplied, Replied}
@@ -85,7 +85,7 @@ explained_line r₀ r₁ s command text said before after is lent printed =
     }
 
 -- a run that is reported
-pub told_line : (r₀ r₁ : Recorded LabState) (s : LabState) (telling : Telling) (form : Form) (limit : ℕ) (said : Reply) (before middle after : List ℕ)
+pub told_line : (r₀ r₁ : Recorded LabState) (s : LabState) (telling : Telling) (form : Report) (limit : ℕ) (said : Reply) (before middle after : List ℕ)
     → IsPerformed r₀ r₁ (commands.Run limit) [] said → s ≡ r₁.state → form ≡ form_of telling
     → middle ≡ before ++ reported_at r₀.state telling limit → after ≡ middle ++ run_end_text form s said
     → IsAnswered before after r₁ (told_run r₀ telling limit)
@@ -97,7 +97,7 @@ told_line r₀ r₁ s telling form limit said before middle after is lent form_i
           ∙ (ap (λ (t : List ℕ). t ++ run_end_text form s said) reported
           ∙ (append_assoc before (reported_at r₀.state telling limit) (run_end_text form s said)
           ∙ ap (λ (t : List ℕ). before ++ (reported_at r₀.state telling limit ++ t))
-          (ap (λ (f : Form). run_end_text f s said) form_is
+          (ap (λ (f : Report). run_end_text f s said) form_is
           ∙ (ap (λ (s : LabState). run_end_text (form_of telling) s said) (lent ∙ is.state)
           ∙ ap (λ (r : Reply). run_end_text (form_of telling) replied.after r) is.replied))));
       after = is.kept;

@@ -46,12 +46,13 @@ commands_text = flat_map (λ name. command_line name.0 name.1) verb_names
 
 -- what is said of a word, after it
 abbrev pub mistake_text : Mistake → List ℕ
-mistake_text mistakes.Capital = codes " has a capital letter, and only small letters are accepted"
-mistake_text mistakes.Digits = codes " is not an address, which is two digits for the track and two for the sector"
+mistake_text mistakes.Capital = codes " has a capital letter; only small letters are accepted"
+mistake_text mistakes.Digits =
+    codes " is not an address: it needs two digits for the track and two for the sector"
 mistake_text mistakes.Track = codes " is not an address: tracks run from 00 to 63"
 mistake_text mistakes.Sector = codes " is not an address: sectors run from 00 to 63"
 mistake_text mistakes.Address =
-    codes " is not an address, which is a label, or a track and a sector, each from 00 to 63"
+    codes " is not an address: write a label, or a track and a sector, each from 00 to 63"
 mistake_text mistakes.Label = codes " is not a label in the last source"
 mistake_text mistakes.Drum = codes " is not on the drum"
 mistake_text mistakes.Blank = codes " needs a space between the order and its address"
@@ -59,15 +60,15 @@ mistake_text mistakes.LetterDigit =
     codes " has l or o, which mean 1 and 0 only on a tape"
 mistake_text mistakes.Odd = codes " is odd, but the last bit of a word is always 0"
 mistake_text mistakes.Equals = codes " needs a space after the ="
-mistake_text mistakes.Number = codes " is a plain number and not eight digits: did you mean = "
+mistake_text mistakes.Number = codes " is a plain number, not eight digits: did you mean = "
 mistake_text mistakes.Whole =
-    codes " is not a whole number that fits with its point; a fraction is put without ="
+    codes " is not a whole number that fits with its point; write a fraction without ="
 mistake_text mistakes.Point = codes " needs a number and the place of its point, as in int 5 30"
 mistake_text mistakes.Value = codes " is not eight digits, a fraction or an operation"
 
 -- what a plain number may have been meant as: a whole number or a fraction
 abbrev pub meant_text : List ℕ → Mistake → List ℕ
-meant_text word mistakes.Number = word ++ (codes " or ." ++ word)
+meant_text word mistakes.Number = word ++ (codes " or ." ++ (word ++ codes "?"))
 meant_text word mistake = []
 
 -- a word, and what is said of it

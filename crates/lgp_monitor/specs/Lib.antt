@@ -5,7 +5,6 @@ pub mod Telling
 pub mod TellingInside
 pub mod Scaled
 pub mod Forms
-pub mod PanelData
 pub mod DataQuestions
 pub mod Questions
 pub mod Entry

@@ -15,6 +15,8 @@ use Rattle.lgp_command.specs.Command.{is_comment, text_after_word}
 use Rattle.lgp_command.specs.CommandText.{command_text}
 use Rattle.lgp_command.specs.declared.command.Command.{Command}
 use Rattle.lgp_debugger.specs.Debugging.{order_origins}
+use Rattle.lgp_fields.specs.declared.records.Form.{Form}
+use Rattle.lgp_fields.specs.declared.records.Form.TheVariants.{Lines as AsLines}
 use Rattle.lgp_script.specs.Script.{replied_to, script_language}
 use Rattle.lgp_script.specs.HistoryCommands.{orders_run, replied_to_run}
 use Rattle.lgp_script.specs.LabState.{LabState, labels_of, opening_state}
@@ -24,7 +26,7 @@ use Rattle.lgp_monitor.specs.Questions.{answer_to}
 use Rattle.lgp_monitor.specs.Forms.{form_line, help_text, misformed_text}
 use Rattle.lgp_monitor.specs.Reasons.{explained_text, refused_text, run_end_text}
 use Rattle.lgp_monitor.specs.Telling.{form_of, reported_text}
-use Rattle.lgp_monitor.specs.Entry.{entry_of}
+use Rattle.lgp_monitor.specs.Entry.{entry_of, in_form, wrong_part}
 use Rattle.lgp_monitor.specs.Operating.{operated, run_line, starts_text}
 use Rattle.lgp_monitor.specs.declared.telling.Telling.{Telling}
 use Rattle.lgp_monitor.specs.declared.entry.Entry.{Entry}
@@ -99,7 +101,8 @@ module _ (recorded : Recorded LabState) where
   -- the reply to a line of which this is kept
   abbrev pub reply_of : Entry → Kept → List ℕ
   reply_of entry.Itself kept = passed_reply kept
-  reply_of entry.Misformed kept = misformed_text names_at counter_at kept.front
+  reply_of entry.Misformed kept =
+      misformed_text names_at counter_at (wrong_part names_at counter_at kept.front)
   reply_of (entry.Script command) kept =
       (explained_command command (text_after_word kept.front)).reply
   reply_of (entry.Go address) kept = replies_text script_language recorded (go_lines address)
@@ -129,20 +132,25 @@ module _ (recorded : Recorded LabState) where
   unfoldable pub entry_at : List ℕ → Entry
   entry_at line = entry_of names_at counter_at (kept_of line)
 
+  -- the same, with replies for programs in a form
+  abbrev pub entry_in : Form → List ℕ → Entry
+  entry_in form line = in_form form (entry_at line)
+
   unfoldable pub meaning_at : List ℕ → Meaning
   meaning_at line =
       if is_some recorded.state.opened then Lines (stand_in (kept_of line) ∷ [])
       else meaning_of (entry_at line) (kept_of line)
 
-  unfoldable pub reply_at : List ℕ → List ℕ
-  reply_at line =
+  -- the reply to a line, to a program in a form
+  unfoldable pub reply_in : Form → List ℕ → List ℕ
+  reply_in form line =
       if is_some recorded.state.opened then (answer_in_source (kept_of line)).reply
-      else reply_of (entry_at line) (kept_of line)
+      else reply_of (entry_in form line) (kept_of line)
 
   -- a line answered
-  abbrev pub answer_at : List ℕ → Answer (Recorded LabState)
-  answer_at line = record {
-    reply = reply_at line;
+  abbrev pub answer_in : Form → List ℕ → Answer (Recorded LabState)
+  answer_in form line = record {
+    reply = reply_in form line;
     after = after_meaning script_language opening_state recorded (meaning_at line);
   }
 
@@ -150,7 +158,7 @@ module _ (recorded : Recorded LabState) where
 
 abbrev pub monitor_language : Language (Recorded LabState)
 monitor_language = record {
-  reply = reply_at;
+  reply = λ recorded line. reply_in recorded AsLines line;
   after = λ recorded line.
       after_meaning script_language opening_state recorded (meaning_at recorded line);
   closing = λ recorded. script_language.closing recorded.state;

@@ -7,8 +7,6 @@ use Rattle.lgp_word.specs.Digits.{address_digits, digits_of}
 use Rattle.lgp_fraction.specs.Arithmetic.{half}
 use Rattle.lgp_fraction.specs.Decimal.{decimal_text}
 use Rattle.lgp_exchange.specs.Paper.{paper_of}
-use Rattle.lgp_fields.specs.declared.records.Form.TheVariants.{Lines}
-use Rattle.lgp_help.specs.Tables.{commands_text as help_commands, faults_text, operations_text}
 use Rattle.lgp_history.specs.declared.rule.Rule.{Rule}
 use Rattle.lgp_history.specs.declared.rule.Rule.TheVariants.{At, Changed}
 use Rattle.lgp_script.specs.DrumCommands.{lines_text}
@@ -22,7 +20,6 @@ use Rattle.lgp_table.specs.declared.panel.Status.{Status}
 use Rattle.lgp_trace.specs.OriginLines.{why_text}
 use Rattle.lgp_monitor.specs.DataQuestions.{data_for}
 use Rattle.lgp_monitor.specs.Forms.{commands_text}
-use Rattle.lgp_monitor.specs.PanelData.{panel_data}
 use Rattle.lgp_monitor.specs.Scaled.{scaled_text}
 use Rattle.lgp_monitor.specs.Telling.{label_of}
 use Rattle.lgp_monitor.specs.declared.question.Question.{Question}
@@ -104,8 +101,4 @@ answer_to questions.Rules lab =
     rule_lines (labels_of lab.source) 0 lab.debugger.rules
 answer_to questions.Live lab = live_text lab.debugger.state.core.panel
 answer_to questions.Commands lab = commands_text
-answer_to questions.PanelData lab = panel_data lab.debugger.state
-answer_to questions.CommandsData lab = help_commands Lines
-answer_to questions.OperationsData lab = operations_text Lines
-answer_to questions.FaultsData lab = faults_text Lines
-answer_to (questions.Data asked) lab = data_for asked lab
+answer_to (questions.Data asked form) lab = data_for form asked lab

@@ -1,9 +1,9 @@
 -- Part of the public promise: what is said after replies: the reasons of refusals, and the
 -- machine's state after a run that is reported.
-use Rattle.std.specs.Prelude.{ℕ, ◌==◌, Bool, true, false, if◌then◌else◌, List, []}
+use Rattle.std.specs.Prelude.{ℕ, Bool, false, if◌then◌else◌, List, []}
 use Rattle.std.specs.Prelude.{◌++◌, codes}
-use Rattle.lgp_debugger.specs.declared.fault.Reason.{Reason}
-use Rattle.lgp_debugger.specs.declared.fault.Reason.TheVariants.{Rest, Rule as ByRule}
+use Rattle.lgp_fields.specs.Printed.{record_in}
+use Rattle.lgp_fields.specs.declared.records.Form.{Form}
 use Rattle.lgp_script.specs.LabState.{LabState}
 use Rattle.lgp_script.specs.Refusal.{refusal_words}
 use Rattle.lgp_script.specs.ReplyText.{reply_text}
@@ -11,20 +11,21 @@ use Rattle.lgp_script.specs.declared.refusal.Refusal.{Refusal}
 use Rattle.lgp_script.specs.declared.refusal.Refusal.TheVariants as refusals
 use Rattle.lgp_script.specs.declared.reply.Reply.{Reply}
 use Rattle.lgp_script.specs.declared.reply.Reply.TheVariants as replies
-use Rattle.lgp_trace.specs.declared.form.Form.{Form}
-use Rattle.lgp_monitor.specs.RunEnds.{stand_text}
+use Rattle.lgp_monitor.specs.RunEnds.{ends_open, ran_record, stand_text}
+use Rattle.lgp_monitor.specs.declared.telling.Report.{Report}
+use Rattle.lgp_monitor.specs.declared.telling.Report.TheVariants as reports
 
 -- why a command is refused
 unfoldable pub reason_of : Refusal → List ℕ
-reason_of refusals.Form = codes "it is in no command's form"
-reason_of refusals.Moving = codes "the machine is running; press manual halts it"
-reason_of refusals.AtWork = codes "the machine is running, and turn needs it at rest"
+reason_of refusals.Form = codes "no command has this form"
+reason_of refusals.Moving = codes "the machine is running; press manual to halt it"
+reason_of refusals.AtWork = codes "the machine is running, and turn needs it to be at rest"
 reason_of refusals.ClockEnd = codes "the clock would pass its limit, 4611686018427387904"
-reason_of refusals.Full = codes "there are 64 rules already; drop removes one"
-reason_of refusals.NoRule = codes "no rule has this number; rules lists them"
+reason_of refusals.Full = codes "there are already 64 rules; drop removes one"
+reason_of refusals.NoRule = codes "no rule has this number; the command rules lists them"
 reason_of (refusals.TooFar kept) = codes "only this many orders are kept"
 reason_of (refusals.NoHit kept) =
-    codes "no rule hits any of the kept orders, of which there are this many"
+    codes "this many orders are kept, and no rule hits any of them"
 reason_of refusals.NoImage = codes "no source has been assembled yet"
 reason_of refusals.TooLong = codes "a line may have at most 4096 bytes, a source at most 1048576"
 reason_of (refusals.BadSign place) =
@@ -40,21 +41,27 @@ unfoldable pub explained_text : LabState → Reply → List ℕ
 explained_text lab (replies.Refused refusal) = refused_text refusal
 explained_text lab reply = reply_text lab reply
 
--- whether a run found the machine at rest, or was stopped by a rule, so that its reply leaves open in
--- which state the machine is
-abbrev pub ends_open : ℕ → Reason → Bool
-ends_open orders Rest = orders == 0
-ends_open orders (ByRule number) = true
-ends_open orders reason = false
-
+-- whether a reply leaves open in which state the machine is
 abbrev pub leaves_open : Reply → Bool
 leaves_open (replies.Ran ran) = ends_open ran.orders ran.reason
 leaves_open reply = false
 
--- the reply to a run that is reported in a form; after one that leaves the state open, a line that
+-- the reply to a run that is reported in columns; after one that leaves the state open, a line that
 -- says it
-unfoldable pub run_end_text : Form → LabState → Reply → List ℕ
-run_end_text form lab reply =
+unfoldable pub stood_text : LabState → Reply → List ℕ
+stood_text lab reply =
     let panel = lab.debugger.state.core.panel in
     explained_text lab reply
-    ++ (if leaves_open reply then stand_text form panel.status panel.mode else [])
+    ++ (if leaves_open reply then stand_text panel.status panel.mode else [])
+
+-- the reply to a run that is reported by records
+abbrev pub ran_text_in : Form → LabState → Reply → List ℕ
+ran_text_in form lab (replies.Ran ran) =
+    let panel = lab.debugger.state.core.panel in
+    record_in form (ran_record ran panel.status panel.mode)
+ran_text_in form lab reply = explained_text lab reply
+
+-- the reply to a run that is reported in a form, with what is said after it
+unfoldable pub run_end_text : Report → LabState → Reply → List ℕ
+run_end_text reports.Columns lab reply = stood_text lab reply
+run_end_text (reports.Records form) lab reply = ran_text_in form lab reply

@@ -1,44 +1,46 @@
--- Part of the public promise: what is said after a run that found the machine at rest, and after
--- one that a rule stopped: the machine's state, and what lets it go on.
-use Rattle.std.specs.Prelude.{ℕ, List, ◌++◌, codes}
-use Rattle.lgp_table.specs.declared.panel.Cause.{Cause}
-use Rattle.lgp_table.specs.declared.panel.Cause.TheVariants.{Operator, Stop, Overflow, Step}
+-- Part of the public promise: what is said after a run that is reported: for people the machine's state
+-- and what lets it go on, where the run found the machine at rest or a rule stopped it; for programs
+-- a record, which says also what the run came to.
+use Rattle.std.specs.Prelude.{ℕ, ◌==◌, Bool, true, false, if◌then◌else◌, List, [], ◌∷◌, ◌++◌, codes}
+use Rattle.std.specs.Prelude.{decimal}
+use Rattle.lgp_data.specs.Ways.{state_sentence, way_sentence}
+use Rattle.lgp_debugger.specs.declared.fault.Ran.{Ran}
+use Rattle.lgp_debugger.specs.declared.fault.Reason.{Reason}
+use Rattle.lgp_debugger.specs.declared.fault.Reason.TheVariants.{Rest, Limit, Rule as ByRule}
+use Rattle.lgp_fields.specs.Plain.{PlainField, field, Nothing, Text}
 use Rattle.lgp_table.specs.declared.panel.Mode.{Mode}
-use Rattle.lgp_table.specs.declared.panel.Mode.TheVariants.{Normal, OneOperation, Manual}
 use Rattle.lgp_table.specs.declared.panel.Status.{Status}
-use Rattle.lgp_table.specs.declared.panel.Status.TheVariants.{Halted, Waiting}
-use Rattle.lgp_trace.specs.declared.form.Form.{Form}
-use Rattle.lgp_trace.specs.declared.form.Form.TheVariants as forms
 
--- what halted the machine
-abbrev pub halt_text : Cause → List ℕ
-halt_text Operator = codes "the operator halted the machine, or has not started it"
-halt_text Stop = codes "a stop order halted the machine"
-halt_text Overflow = codes "an overflow halted the machine"
-halt_text Step = codes "the machine halted after one operation"
+-- whether a run found the machine at rest, or was stopped by a rule, so that its reply leaves open in
+-- which state the machine is
+abbrev pub ends_open : ℕ → Reason → Bool
+ends_open orders Rest = orders == 0
+ends_open orders (ByRule number) = true
+ends_open orders reason = false
 
--- what starts it again
-abbrev pub start_text : Mode → List ℕ
-start_text Normal = codes ": press start continues\n"
-start_text OneOperation = codes ": press start performs one order\n"
-start_text Manual = codes ": press normal, then press start continues\n"
+-- the machine's state, and what lets it go on
+abbrev pub stand_words : Status → Mode → List ℕ
+stand_words status mode = state_sentence status ++ (codes ": " ++ way_sentence status mode)
 
--- the machine's state
-abbrev pub state_text : Status → List ℕ
-state_text (Halted cause) = halt_text cause
-state_text Waiting = codes "an input is waiting for codes"
-state_text status = codes "the machine is still going"
+unfoldable pub stand_text : Status → Mode → List ℕ
+stand_text status mode = codes "        " ++ (stand_words status mode ++ codes "\n")
 
--- what lets it go on
-abbrev pub way_text : Status → Mode → List ℕ
-way_text (Halted cause) mode = start_text mode
-way_text Waiting mode = codes ": press read starts the tape, press compute ends the input\n"
-way_text status mode = codes ": run continues, press manual halts it\n"
+-- how many orders a run performed, and what ended it
+abbrev pub reason_words : Reason → List ℕ
+reason_words Rest = codes " rest"
+reason_words Limit = codes " limit"
+reason_words (ByRule number) = codes " rule "
 
--- in front of them: blanks for people, and for programs a key
-abbrev pub front_of_state : Form → List ℕ
-front_of_state forms.Columns = codes "        "
-front_of_state forms.Data = codes "state "
+abbrev pub rule_words : Reason → List ℕ
+rule_words (ByRule number) = decimal number
+rule_words reason = []
 
-unfoldable pub stand_text : Form → Status → Mode → List ℕ
-stand_text form status mode = front_of_state form ++ (state_text status ++ way_text status mode)
+abbrev pub ran_words : Ran → List ℕ
+ran_words ran = decimal ran.orders ++ (reason_words ran.reason ++ rule_words ran.reason)
+
+unfoldable pub ran_record : Ran → Status → Mode → List PlainField
+ran_record ran status mode =
+    field (codes "ran") (Text (ran_words ran))
+    ∷ field (codes "state") (if ends_open ran.orders ran.reason then Text (stand_words status mode)
+    else Nothing)
+    ∷ []

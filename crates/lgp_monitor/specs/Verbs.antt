@@ -2,7 +2,8 @@
 -- Those of the script language are among them, the desk's `quit`, and those that name a file, which
 -- the monitor's program takes.
 use Rattle.std.specs.Prelude.{ℕ, Bool, true, false, List, [], ◌∷◌, codes}
-use Rattle.lgp_trace.specs.declared.form.Form.TheVariants as forms
+use Rattle.lgp_fields.specs.declared.records.Form.TheVariants.{Lines}
+use Rattle.lgp_monitor.specs.declared.telling.Report.TheVariants as reports
 use Rattle.lgp_monitor.specs.declared.verb.AddressCommand.TheVariants as address_commands
 use Rattle.lgp_monitor.specs.declared.verb.LoneCommand.TheVariants as lone_commands
 use Rattle.lgp_monitor.specs.declared.verb.NumberCommand.TheVariants as number_commands
@@ -22,10 +23,10 @@ verb_names =
     ∷ (codes "orders", verbs.Number number_commands.Script)
     ∷ (codes "run", verbs.Number number_commands.Script)
     ∷ (codes "operate", verbs.Number number_commands.Operate)
-    ∷ (codes "trace", verbs.Number (number_commands.Trace forms.Columns))
-    ∷ (codes "profile", verbs.Number (number_commands.Profile forms.Columns))
+    ∷ (codes "trace", verbs.Number (number_commands.Trace reports.Columns))
+    ∷ (codes "profile", verbs.Number (number_commands.Profile reports.Columns))
     ∷ (codes "drum", verbs.Number number_commands.Drum)
-    ∷ (codes "optimum", verbs.NumberAddress forms.Columns)
+    ∷ (codes "optimum", verbs.NumberAddress reports.Columns)
     ∷ (codes "why", verbs.Address address_commands.Why)
     ∷ (codes "back", verbs.Number number_commands.Script)
     ∷ (codes "last", verbs.Lone lone_commands.Script)
@@ -73,9 +74,11 @@ verb_names =
     ∷ (codes "tape-data", verbs.Lone lone_commands.TapeData)
     ∷ (codes "source-data", verbs.Lone lone_commands.SourceData)
     ∷ (codes "cost", verbs.Address address_commands.Cost)
-    ∷ (codes "trace-data", verbs.Number (number_commands.Trace forms.Data))
-    ∷ (codes "profile-data", verbs.Number (number_commands.Profile forms.Data))
-    ∷ (codes "optimum-data", verbs.NumberAddress forms.Data)
+    ∷ (codes "trace-data", verbs.Number (number_commands.Trace (reports.Records Lines)))
+    ∷ (codes "profile-data", verbs.Number (number_commands.Profile (reports.Records Lines)))
+    ∷ (codes "optimum-data", verbs.NumberAddress (reports.Records Lines))
+    ∷ (codes "look", verbs.CountedRange)
+    ∷ (codes "json", verbs.Line)
     ∷ (codes "transcript", verbs.Lone lone_commands.Transcript)
     ∷ (codes "new", verbs.Lone lone_commands.New)
     ∷ (codes "help", verbs.Command)
@@ -87,10 +90,13 @@ unfoldable pub operands_form : Verb → List ℕ
 operands_form (verbs.Lone _) = []
 operands_form (verbs.Address command) = codes " ttss"
 operands_form (verbs.Number command) = codes " NUMBER"
-operands_form (verbs.NumberAddress forms.Columns) = codes " NUMBER or optimum NUMBER ttss"
-operands_form (verbs.NumberAddress forms.Data) = codes " NUMBER or optimum-data NUMBER ttss"
+operands_form (verbs.NumberAddress reports.Columns) = codes " NUMBER or optimum NUMBER ttss"
+operands_form (verbs.NumberAddress (reports.Records form)) =
+    codes " NUMBER or optimum-data NUMBER ttss"
 operands_form (verbs.Range command) = codes " ttss NUMBER, at most 64"
 operands_form verbs.ScaledRange = codes " ttss NUMBER, at most 64, or numbers ttss NUMBER POINT"
+operands_form verbs.CountedRange =
+    codes " ttss NUMBER, at most 64, and how many printed codes are known"
 operands_form verbs.Word =
     codes " ttss WORD, FRACTION or OPERATION as in a source, or put ttss = NUMBER or = NUMBER POINT"
 operands_form verbs.Text = codes " TEXT"
@@ -98,6 +104,7 @@ operands_form verbs.Key = codes " normal, oneop, manual, start, clear, fill, exe
 operands_form verbs.Source =
     codes ", then its lines, then a line with only a point; in the program lgp_monitor also source FILE"
 operands_form verbs.File = codes " FILE, in the program lgp_monitor"
+operands_form verbs.Line = codes " LINE, where LINE is one for programs, such as state-data"
 operands_form verbs.Command = codes " or help COMMAND"
 operands_form verbs.End = codes ", which ends the program lgp_monitor"
 
@@ -109,11 +116,13 @@ operands_kind (verbs.Number command) = codes " number\n"
 operands_kind (verbs.NumberAddress form) = codes " number\n"
 operands_kind (verbs.Range command) = codes " range\n"
 operands_kind verbs.ScaledRange = codes " range\n"
+operands_kind verbs.CountedRange = codes " range\n"
 operands_kind verbs.Word = codes " address word\n"
 operands_kind verbs.Text = codes " text\n"
 operands_kind verbs.Key = codes " button\n"
 operands_kind verbs.Source = codes " source\n"
 operands_kind verbs.File = codes " file\n"
+operands_kind verbs.Line = codes " line\n"
 operands_kind verbs.Command = codes " command\n"
 operands_kind verbs.End = codes " alone\n"
 
@@ -141,6 +150,7 @@ only_asks (verbs.Address address_commands.WhyData) = true
 only_asks (verbs.Address address_commands.Cost) = true
 only_asks (verbs.Number number_commands.PaperData) = true
 only_asks verbs.ScaledRange = true
+only_asks verbs.CountedRange = true
 only_asks verbs.Command = true
 only_asks _ = false
 
@@ -149,5 +159,6 @@ abbrev pub takes_address : Verb → Bool
 takes_address (verbs.Address command) = true
 takes_address (verbs.Range command) = true
 takes_address verbs.ScaledRange = true
+takes_address verbs.CountedRange = true
 takes_address verbs.Word = true
 takes_address verb = false

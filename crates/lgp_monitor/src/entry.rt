@@ -1,6 +1,6 @@
 //! What a typed line asks for.
 
-ghost use Rattle.std.specs.Prelude.{◌≡◌, ◌==◌, ◌||◌, ◌*ℤ◌, if◌then◌else◌, is_some, option_and_then, option_map, pos, slice_index};
+ghost use Rattle.std.specs.Prelude.{◌≡◌, ◌==◌, ◌||◌, ◌*ℤ◌, false, if◌then◌else◌, is_some, option_and_then, option_map, pos, slice_index};
 ghost use Rattle.std.specs.Option.{option_copied, option_map_or};
 ghost use Rattle.std.specs.Result.{result_ok};
 ghost use Rattle.std.specs.Str.{byte};
@@ -11,18 +11,18 @@ ghost use Rattle.lgp_command.specs.Span.{range_of};
 ghost use Rattle.lgp_stream.specs.LineWords.{after_word, first_word, has_no_word};
 ghost use Rattle.lgp_text.specs.NamedValues.{named};
 ghost use Rattle.lgp_monitor.specs.Verbs.{verb_names};
-ghost use Rattle.lgp_monitor.specs.Entry.{address_at, asked_alone, asked_at, asked_by, asked_of, asked_with, digits_or_fraction, lone_word, numbers_entry, operand_at, operation_at, point_at, optimum_entry, range_at, entry_by, entry_of, value_at, whole_at};
+ghost use Rattle.lgp_monitor.specs.Entry.{address_at, as_objects, command_entry, is_line_verb, is_misformed, wrong_part, asked_alone, asked_at, asked_by, asked_of, asked_with, digits_or_fraction, in_form, is_data, is_for_programs, is_records, json_entry, lone_word, look_entry, numbers_entry, operand_at, operation_at, plain_entry, point_at, optimum_entry, question_as_objects, range_at, report_as_objects, entry_by, entry_of, telling_as_objects, typed_by, value_at, whole_at};
 
 use crate::data_question::DataQuestion;
 use crate::question::Question;
 use crate::scaled::Point;
-use crate::telling::Telling;
+use crate::telling::{Report, Telling};
 use crate::verb::{AddressCommand, LoneCommand, NumberCommand, RangeCommand, Verb, verb_named};
 use lgp_assembler::{Name, OperandFault, Symbols, address_operand, operation_word};
 use lgp_command::{Asked, Command, Count, Span, asked_in, is_comment, lone_count};
+use lgp_fields::Form;
 use lgp_fraction::Fraction;
 use lgp_stream::{LineBytes, Split, has_no_word, split_word};
-use lgp_trace::Form;
 use lgp_word::{Address, Word, read_digits};
 
 /// What a typed line asks for.
@@ -197,6 +197,13 @@ fn put_typed(names: &[(Name, u16)], counter: Address, operands: &[u8]) -> Entry
     put_by(names, address_at(names, counter, word), rest)
 }
 
+/// A question of a program, whose reply is lines.
+fn asked_data(question: DataQuestion) -> Entry
+    ensures { result ≡ Entry.Asked (Question.Data question Form.Lines) }
+{
+    Entry::Asked(Question::Data(question, Form::Lines))
+}
+
 /// What a command asks for with an address.
 fn asked_at(command: AddressCommand, address: Address) -> Entry
     ensures { result ≡ asked_at command address }
@@ -206,8 +213,8 @@ fn asked_at(command: AddressCommand, address: Address) -> Entry
         AddressCommand::Watch => Entry::Script(Command::Watch(address)),
         AddressCommand::Go => Entry::Go(address),
         AddressCommand::Why => Entry::Asked(Question::Why(address)),
-        AddressCommand::WhyData => Entry::Asked(Question::Data(DataQuestion::Why(address))),
-        AddressCommand::Cost => Entry::Asked(Question::Data(DataQuestion::Cost(address))),
+        AddressCommand::WhyData => asked_data(DataQuestion::Why(address)),
+        AddressCommand::Cost => asked_data(DataQuestion::Cost(address)),
     }
 }
 
@@ -259,7 +266,7 @@ fn asked_of(command: RangeCommand, range: Span) -> Entry
     match command {
         RangeCommand::Words => Entry::Script(Command::Words(range)),
         RangeCommand::Show => Entry::Script(Command::Show(range)),
-        RangeCommand::ShowData => Entry::Asked(Question::Data(DataQuestion::Show(range))),
+        RangeCommand::ShowData => asked_data(DataQuestion::Show(range)),
     }
 }
 
@@ -320,6 +327,29 @@ fn numbers_entry(names: &[(Name, u16)], counter: Address, operands: &[u8]) -> En
     )
 }
 
+/// A range of words, and how many printed codes are known.
+fn look_by(range: Option<Span>, from: Option<Count>) -> Entry
+    ensures { result ≡ asked_by (λ words. asked_by (λ known.
+        Entry.Asked (Question.Data (DataQuestion.Look words known) Form.Lines)) from) range }
+{
+    match (range, from) {
+        (Some(range), Some(from)) => asked_data(DataQuestion::Look(range, from.get())),
+        _ => Entry::Misformed,
+    }
+}
+
+/// The operands of `look`.
+#[tactic(auto, unfolding(crate::specs::Entry::look_entry))]
+fn look_entry(names: &[(Name, u16)], counter: Address, operands: &[u8]) -> Entry
+    ensures { result ≡ look_entry names.now counter operands.now }
+{
+    let count = split_word(operands).rest;
+    look_by(
+        first_range(names, counter, operands),
+        lone_count(split_word(count).rest),
+    )
+}
+
 /// What a command asks for with a number.
 fn asked_with(command: NumberCommand, number: Count) -> Entry
     ensures { result ≡ asked_with command number }
@@ -330,7 +360,7 @@ fn asked_with(command: NumberCommand, number: Count) -> Entry
         NumberCommand::Profile(form) => Entry::Reported(Telling::Profile(form), number),
         NumberCommand::Drum => Entry::Reported(Telling::Drum, number),
         NumberCommand::Operate => Entry::Operate(number),
-        NumberCommand::PaperData => Entry::Asked(Question::Data(DataQuestion::Paper(number.get()))),
+        NumberCommand::PaperData => asked_data(DataQuestion::Paper(number.get())),
     }
 }
 
@@ -376,7 +406,7 @@ fn reported_so(telling: Telling, limit: Option<Count>) -> Entry
 fn reported_word(
     names: &[(Name, u16)],
     counter: Address,
-    form: Form,
+    form: Report,
     word: &[u8],
     number: &[u8],
 ) -> Entry
@@ -391,7 +421,7 @@ fn reported_word(
 
 /// The operands of `optimum` and `optimum-data`.
 #[tactic(auto, unfolding(crate::specs::Entry::optimum_entry))]
-fn optimum_entry(names: &[(Name, u16)], counter: Address, form: Form, operands: &[u8]) -> Entry
+fn optimum_entry(names: &[(Name, u16)], counter: Address, form: Report, operands: &[u8]) -> Entry
     ensures { result ≡ optimum_entry names.now counter form operands.now }
 {
     let number = split_word(operands);
@@ -416,15 +446,15 @@ fn asked_alone(command: LoneCommand) -> Entry
         LoneCommand::Labels => Entry::Asked(Question::Labels),
         LoneCommand::Live => Entry::Asked(Question::Live),
         LoneCommand::Commands => Entry::Asked(Question::Commands),
-        LoneCommand::PanelData => Entry::Asked(Question::PanelData),
-        LoneCommand::CommandsData => Entry::Asked(Question::CommandsData),
-        LoneCommand::OperationsData => Entry::Asked(Question::OperationsData),
-        LoneCommand::FaultsData => Entry::Asked(Question::FaultsData),
-        LoneCommand::StateData => Entry::Asked(Question::Data(DataQuestion::State)),
-        LoneCommand::LabelsData => Entry::Asked(Question::Data(DataQuestion::Labels)),
-        LoneCommand::RulesData => Entry::Asked(Question::Data(DataQuestion::Rules)),
-        LoneCommand::TapeData => Entry::Asked(Question::Data(DataQuestion::Tape)),
-        LoneCommand::SourceData => Entry::Asked(Question::Data(DataQuestion::Source)),
+        LoneCommand::PanelData => asked_data(DataQuestion::Panel),
+        LoneCommand::CommandsData => asked_data(DataQuestion::Commands),
+        LoneCommand::OperationsData => asked_data(DataQuestion::Operations),
+        LoneCommand::FaultsData => asked_data(DataQuestion::Faults),
+        LoneCommand::StateData => asked_data(DataQuestion::State),
+        LoneCommand::LabelsData => asked_data(DataQuestion::Labels),
+        LoneCommand::RulesData => asked_data(DataQuestion::Rules),
+        LoneCommand::TapeData => asked_data(DataQuestion::Tape),
+        LoneCommand::SourceData => asked_data(DataQuestion::Source),
         LoneCommand::Transcript => Entry::Transcript,
         LoneCommand::New => Entry::New,
     }
@@ -454,27 +484,185 @@ fn entry_by(names: &[(Name, u16)], counter: Address, verb: Option<Verb>, operand
         Some(Verb::NumberAddress(form)) => optimum_entry(names, counter, form, operands),
         Some(Verb::Range(command)) => range_typed(names, counter, command, operands),
         Some(Verb::ScaledRange) => numbers_entry(names, counter, operands),
+        Some(Verb::CountedRange) => look_entry(names, counter, operands),
         Some(Verb::Word) => put_typed(names, counter, operands),
         Some(Verb::Command) => help_typed(operands),
-        Some(Verb::Text | Verb::Key | Verb::Source | Verb::File | Verb::End) | None => {
-            Entry::Misformed
-        }
+        Some(Verb::Text | Verb::Key | Verb::Source | Verb::File | Verb::Line | Verb::End) | None =>
+            Entry::Misformed,
+    }
+}
+
+/// Whether a report is for programs.
+fn is_records(report: Report) -> bool
+    ensures { result ≡ is_records report }
+{
+    matches!(report, Report::Records(_))
+}
+
+/// Whether what is shown is for programs.
+fn is_data(question: &Question) -> bool
+    ensures { result ≡ is_data question.now }
+{
+    matches!(question, Question::Data(_, _))
+}
+
+/// Whether the reply to what is asked for is for programs.
+fn is_for_programs(entry: &Entry) -> bool
+    ensures { result ≡ is_for_programs entry.now }
+{
+    match entry {
+        Entry::Asked(question) => is_data(question),
+        Entry::Reported(telling, _) => is_records(telling.form()),
+        _ => false,
+    }
+}
+
+/// A report, one for programs as objects of JSON.
+fn report_as_objects(report: Report) -> Report
+    ensures { result ≡ report_as_objects report }
+{
+    match report {
+        Report::Records(_) => Report::Records(Form::Objects),
+        Report::Columns => Report::Columns,
+    }
+}
+
+/// How a run is reported, to programs by objects of JSON.
+fn telling_as_objects(telling: Telling) -> Telling
+    ensures { result ≡ telling_as_objects telling }
+{
+    match telling {
+        Telling::Trace(report) => Telling::Trace(report_as_objects(report)),
+        Telling::Profile(report) => Telling::Profile(report_as_objects(report)),
+        Telling::Drum => Telling::Drum,
+        Telling::Optimum(report) => Telling::Optimum(report_as_objects(report)),
+        Telling::OptimumOf(report, word) => { Telling::OptimumOf(report_as_objects(report), word) }
+    }
+}
+
+/// What is shown, to programs as objects of JSON.
+fn question_as_objects(question: Question) -> Question
+    ensures { result ≡ question_as_objects question }
+{
+    match question {
+        Question::Data(asked, _) => Question::Data(asked, Form::Objects),
+        other => other,
+    }
+}
+
+/// What is asked for, with a reply for programs as objects of JSON.
+fn as_objects(entry: Entry) -> Entry
+    ensures { result ≡ as_objects entry }
+{
+    match entry {
+        Entry::Asked(question) => Entry::Asked(question_as_objects(question)),
+        Entry::Reported(telling, limit) => Entry::Reported(telling_as_objects(telling), limit),
+        other => other,
+    }
+}
+
+/// What is asked for with replies for programs in a form.
+pub(crate) fn in_form(form: Form, entry: Entry) -> Entry
+    ensures { result ≡ in_form form entry }
+{
+    match form {
+        Form::Lines => entry,
+        Form::Objects => as_objects(entry),
+    }
+}
+
+/// A line in the monitor's own forms.
+fn plain_entry(names: &[(Name, u16)], counter: Address, line: &[u8]) -> Entry
+    ensures { result ≡ plain_entry names.now counter line.now }
+{
+    let Split { word, rest } = split_word(line);
+    entry_by(names, counter, verb_named(word), rest)
+}
+
+/// A command of scripts, or a line in the monitor's own forms.
+fn command_entry(names: &[(Name, u16)], counter: Address, line: &[u8]) -> Entry
+    ensures { result ≡ command_entry names.now counter line.now }
+{
+    let Asked { command, text: _ } = asked_in(line);
+    match command {
+        Some(command) => Entry::Script(command),
+        None => plain_entry(names, counter, line),
+    }
+}
+
+/// Whether nothing is asked for, since a line is in no command's form.
+fn is_misformed(entry: Entry) -> bool
+    ensures { result ≡ is_misformed entry }
+{
+    matches!(entry, Entry::Misformed)
+}
+
+/// Whether another line comes after a command.
+fn is_line_verb(verb: Option<Verb>) -> bool
+    ensures { result ≡ option_map_or is_line_verb verb false }
+{
+    matches!(verb, Some(Verb::Line))
+}
+
+/// Of a line that is in no command's form the part that is wrong: the line after `json`, where that is in no form itself.
+#[tactic(auto, unfolding(crate::specs::Entry::wrong_part))]
+pub(crate) fn wrong_part<'a>(names: &[(Name, u16)], counter: Address, line: &'a [u8]) -> &'a [u8]
+    ensures { result.now ≡ wrong_part names.now counter line.now }
+{
+    let Split { word, rest } = split_word(line);
+    if is_line_verb(verb_named(word))
+        && !has_no_word(rest)
+        && is_misformed(command_entry(names, counter, rest))
+    {
+        rest
+    } else {
+        line
+    }
+}
+
+/// What is asked for by objects of JSON; nothing where its reply is not for programs.
+fn objects_of(entry: Entry) -> Entry
+    ensures { result
+        ≡ (if is_for_programs entry then as_objects entry else Entry.Misformed) }
+{
+    if is_for_programs(&entry) {
+        as_objects(entry)
+    } else {
+        Entry::Misformed
+    }
+}
+
+/// A line that asks by another one for programs, whose reply is objects of JSON.
+#[tactic(auto, unfolding(crate::specs::Entry::json_entry))]
+fn json_entry(names: &[(Name, u16)], counter: Address, line: &[u8]) -> Entry
+    ensures { result ≡ json_entry names.now counter line.now }
+{
+    objects_of(plain_entry(names, counter, line))
+}
+
+/// The same, or a line by itself.
+#[tactic(auto, unfolding(crate::specs::Entry::typed_by))]
+fn typed_by(names: &[(Name, u16)], counter: Address, line: &[u8]) -> Entry
+    ensures { result ≡ asked_by (typed_by names.now counter (after_word line.now))
+        (named verb_names (first_word line.now)) }
+{
+    let Split { word, rest } = split_word(line);
+    match verb_named(word) {
+        Some(Verb::Line) => json_entry(names, counter, rest),
+        verb => entry_by(names, counter, verb, rest),
     }
 }
 
 /// What a line asks for: a command of scripts, or one of the monitor.
 fn typed_line(names: &[(Name, u16)], counter: Address, line: &[u8]) -> Entry
     ensures { result ≡ option_map_or Entry.Script (command_of line.now)
-        (asked_by (entry_by names.now counter (after_word line.now))
+        (asked_by (typed_by names.now counter (after_word line.now))
         (named verb_names (first_word line.now))) }
 {
     let Asked { command, text: _ } = asked_in(line);
     match command {
         Some(command) => Entry::Script(command),
-        None => {
-            let Split { word, rest } = split_word(line);
-            entry_by(names, counter, verb_named(word), rest)
-        }
+        None => typed_by(names, counter, line),
     }
 }
 

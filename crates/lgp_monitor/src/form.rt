@@ -59,22 +59,22 @@ fn mistake_text(mistake: Mistake) -> &'static [u8]
     ensures { result.now ≡ mistake_text mistake }
 {
     match mistake {
-        Mistake::Capital => b" has a capital letter, and only small letters are accepted",
+        Mistake::Capital => b" has a capital letter; only small letters are accepted",
         Mistake::Digits =>
-            b" is not an address, which is two digits for the track and two for the sector",
+            b" is not an address: it needs two digits for the track and two for the sector",
         Mistake::Track => b" is not an address: tracks run from 00 to 63",
         Mistake::Sector => b" is not an address: sectors run from 00 to 63",
         Mistake::Address =>
-            b" is not an address, which is a label, or a track and a sector, each from 00 to 63",
+            b" is not an address: write a label, or a track and a sector, each from 00 to 63",
         Mistake::Label => b" is not a label in the last source",
         Mistake::Drum => b" is not on the drum",
         Mistake::Blank => b" needs a space between the order and its address",
         Mistake::LetterDigit => b" has l or o, which mean 1 and 0 only on a tape",
         Mistake::Odd => b" is odd, but the last bit of a word is always 0",
         Mistake::Equals => b" needs a space after the =",
-        Mistake::Number => b" is a plain number and not eight digits: did you mean = ",
+        Mistake::Number => b" is a plain number, not eight digits: did you mean = ",
         Mistake::Whole =>
-            b" is not a whole number that fits with its point; a fraction is put without =",
+            b" is not a whole number that fits with its point; write a fraction without =",
         Mistake::Point => b" needs a number and the place of its point, as in int 5 30",
         Mistake::Value => b" is not eight digits, a fraction or an operation",
     }
@@ -244,7 +244,12 @@ fn push_meant<A: Allocator>(
     }
     push_pieces(
         text,
-        &[Piece::Text(word), Piece::Text(b" or ."), Piece::Text(word)],
+        &[
+            Piece::Text(word),
+            Piece::Text(b" or ."),
+            Piece::Text(word),
+            Piece::Text(b"?"),
+        ],
     )
 }
 

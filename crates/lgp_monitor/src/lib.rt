@@ -7,7 +7,7 @@ pub use monitor::Monitor;
 pub use progress::{Progress, Silence};
 pub use question::Question;
 pub use scaled::Point;
-pub use telling::Telling;
+pub use telling::{Report, Telling};
 pub use verb::{AddressCommand, LoneCommand, NumberCommand, RangeCommand, Verb};
 
 mod closing;
@@ -20,7 +20,6 @@ mod labels;
 pub mod laws;
 mod monitor;
 mod operating;
-mod panel_data;
 mod performing;
 mod portions;
 mod progress;

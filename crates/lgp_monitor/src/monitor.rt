@@ -11,15 +11,15 @@ ghost use Rattle.lgp_script.specs.HistoryCommands.{orders_run};
 ghost use Rattle.lgp_script.specs.LabState.{labels_of, opening_state};
 ghost use Rattle.lgp_monitor.specs.Closing.{is_source_end};
 ghost use Rattle.lgp_monitor.specs.FileTexts.{answer_to_dump, answer_to_tape};
-ghost use Rattle.lgp_monitor.specs.Entry.{entry_of};
+ghost use Rattle.lgp_monitor.specs.Entry.{entry_of, in_form};
 ghost use Rattle.lgp_monitor.specs.Forms.{form_line};
-ghost use Rattle.lgp_monitor.specs.Monitor.{answer_at, answer_in_source, answer_of, entry_at, monitor_language, told_run};
+ghost use Rattle.lgp_monitor.specs.Monitor.{answer_in, answer_in_source, answer_of, entry_in, monitor_language, told_run};
 ghost use Rattle.lgp_monitor.specs.PerformingInside.{IsPerformed};
 ghost use Rattle.lgp_monitor.specs.Reasons.{refused_text};
 ghost use Rattle.lgp_monitor.specs.Telling.{reported_text};
 
 use crate::closing::{is_source_end, push_closing};
-use crate::entry::{Entry, entry_of};
+use crate::entry::{Entry, entry_of, in_form, wrong_part};
 use crate::file_texts::{mount_tape, restore};
 use crate::form::{push_form_line, push_help, push_misformed};
 use crate::going::go;
@@ -31,6 +31,7 @@ use crate::reason::{push_refused, push_run_end};
 use crate::telling::{Telling, run_told};
 use crate::verb::Verb;
 use lgp_command::{Command, Count, is_comment, text_after_word};
+use lgp_fields::Form;
 use lgp_script::{Laboratory, Refusal, Reply};
 use lgp_stream::{Answers, LineBytes, Recorder, split_word};
 use std::alloc::{AllocError, Allocator};
@@ -190,11 +191,12 @@ fn misform<A: Allocator + Copy>(
         (answer_of recorder.old Entry.Misformed line.now)) }
 {
     let laboratory = recorder.answers();
+    let (names, counter) = (laboratory.labels(), laboratory.debugger().look().counter);
     push_misformed(
         reply,
-        laboratory.labels(),
-        laboratory.debugger().look().counter,
-        line.front(),
+        names,
+        counter,
+        wrong_part(names, counter, line.front()),
     )?;
     let mut refusal = Vec::new(alloc);
     recorder.answer_kept(line, &mut refusal)
@@ -214,16 +216,13 @@ fn begin_anew<A: Allocator + Copy>(
     reply.extend_from_slice(b"new\n")
 }
 
-/// What a line asks for in the state of a laboratory.
-fn entry_at<A: Allocator + Copy>(laboratory: &Laboratory<A>, line: &LineBytes) -> Entry
-    ensures { result ≡ entry_of (labels_of laboratory.now.source)
-        laboratory.now.debugger.state.core.panel.counter line.now }
+/// What a line asks for in the state of a laboratory, with replies for programs in a form.
+fn entry_at<A: Allocator + Copy>(form: Form, laboratory: &Laboratory<A>, line: &LineBytes) -> Entry
+    ensures { result ≡ in_form form (entry_of (labels_of laboratory.now.source)
+        laboratory.now.debugger.state.core.panel.counter line.now) }
 {
-    entry_of(
-        laboratory.labels(),
-        laboratory.debugger().look().counter,
-        line,
-    )
+    let counter = laboratory.debugger().look().counter;
+    in_form(form, entry_of(laboratory.labels(), counter, line))
 }
 
 /// Does what a line asks for of which this was kept.
@@ -261,6 +260,7 @@ fn perform<A: Allocator + Copy, P: Progress>(
 /// Answers a line of which this was kept where no source is open.
 fn answer_outside<A: Allocator + Copy, P: Progress>(
     alloc: A,
+    form: Form,
     recorder: &mut Recorder<Laboratory<A>, A>,
     line: &LineBytes,
     progress: &P,
@@ -269,16 +269,17 @@ fn answer_outside<A: Allocator + Copy, P: Progress>(
     requires { recorder.old.state.opened ≡ None }
     ensures { (text : List ℕ) → line.now ≡ kept_of text
         → OnOk result (IsAnswered reply.old.items reply.new.items recorder.new
-        (answer_of recorder.old (entry_at recorder.old text) line.now)) }
+        (answer_of recorder.old (entry_in recorder.old form text) line.now)) }
 {
-    let entry = entry_at(recorder.answers(), line);
+    let entry = entry_at(form, recorder.answers(), line);
     perform(alloc, recorder, entry, line, progress, reply)
 }
 
-/// Answers a line of which this was kept.
-#[tactic(auto, unfolding(crate::specs::Monitor::meaning_at, crate::specs::Monitor::reply_at))]
+/// Answers a line of which this was kept, and a program in a form.
+#[tactic(auto, unfolding(crate::specs::Monitor::meaning_at, crate::specs::Monitor::reply_in), using(crate::proofs::FormLemmas::same_meaning))]
 fn answer_line<A: Allocator + Copy, P: Progress>(
     alloc: A,
+    form: Form,
     recorder: &mut Recorder<Laboratory<A>, A>,
     line: &LineBytes,
     progress: &P,
@@ -286,12 +287,12 @@ fn answer_line<A: Allocator + Copy, P: Progress>(
 ) -> Result<(), AllocError>
     ensures { (text : List ℕ) → line.now ≡ kept_of text
         → OnOk result (IsAnswered reply.old.items reply.new.items recorder.new
-        (answer_at recorder.old text)) }
+        (answer_in recorder.old form text)) }
 {
     if recorder.answers().has_open_source() {
         return answer_in_source(alloc, recorder, line, reply);
     }
-    answer_outside(alloc, recorder, line, progress, reply)
+    answer_outside(alloc, form, recorder, line, progress, reply)
 }
 
 impl<A: Allocator + Copy> Monitor<Laboratory<A>, A> {
@@ -342,6 +343,27 @@ impl<A: Allocator + Copy, P: Progress> Monitor<Laboratory<A>, A, P> {
         mount_tape(self.alloc, &mut self.recorder, name, text, reply)
     }
 
+    /// Answers a line as `answer` does, and a program in a form.
+    pub fn answer_in(
+        &mut self,
+        form: Form,
+        line: &LineBytes,
+        reply: &mut Vec<u8, A>,
+    ) -> Result<(), AllocError>
+        ensures { (text : List ℕ) → line.now ≡ kept_of text
+            → OnOk result (IsAnswered reply.old.items reply.new.items self.new
+            (answer_in self.old form text)) }
+    {
+        answer_line(
+            self.alloc,
+            form,
+            &mut self.recorder,
+            line,
+            &self.progress,
+            reply,
+        )
+    }
+
     /// The laboratory in which its lines are answered.
     pub fn laboratory(&self) -> &Laboratory<A>
         ensures { result.now ≡ self.now.state }
@@ -354,7 +376,7 @@ impl<A: Allocator + Copy, P: Progress> Answers<A> for Monitor<Laboratory<A>, A, 
     ghost language = { monitor_language };
 
     fn answer(&mut self, line: &LineBytes, reply: &mut Vec<u8, A>) -> Result<(), AllocError> {
-        answer_line(self.alloc, &mut self.recorder, line, &self.progress, reply)
+        self.answer_in(Form::Lines, line, reply)
     }
 
     fn close(&mut self, reply: &mut Vec<u8, A>) -> Result<(), AllocError> {

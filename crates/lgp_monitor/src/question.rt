@@ -13,7 +13,6 @@ ghost use Rattle.lgp_monitor.specs.Questions.{answer_to, label_line, live_keys, 
 use crate::data_question::{DataQuestion, push_data};
 use crate::form::push_commands;
 use crate::labels::{NamedAddresses, push_name};
-use crate::panel_data::push_panel_data;
 use crate::scaled::{Point, push_scaled};
 use lgp_assembler::Name;
 use lgp_debugger::Debugger;
@@ -47,16 +46,8 @@ pub enum Question {
     Live,
     /// Each command, whether it only asks, and what its operands are.
     Commands,
-    /// What the panel shows, as lines of a key and a value.
-    PanelData,
-    /// What is told about each command, as records for programs.
-    CommandsData,
-    /// What is told about each operation of the source language, as records for programs.
-    OperationsData,
-    /// What is told about each kind of fault, as records for programs.
-    FaultsData,
-    /// What a program reads.
-    Data(DataQuestion),
+    /// What a program reads, in a form.
+    Data(DataQuestion, Form),
 }
 
 /// Appends a word by its digits, as a fraction and as a number whose point is after a place.
@@ -356,10 +347,6 @@ pub fn push_answer<A: Allocator + Copy>(
         }
         Question::Live => push_live(text, laboratory.debugger()),
         Question::Commands => push_commands(text),
-        Question::PanelData => push_panel_data(text, laboratory.debugger().machine()),
-        Question::CommandsData => lgp_help::push_commands(text, Form::Lines),
-        Question::OperationsData => lgp_help::push_operations(text, Form::Lines),
-        Question::FaultsData => lgp_help::push_faults(text, Form::Lines),
-        Question::Data(asked) => push_data(alloc, text, asked, laboratory),
+        Question::Data(asked, form) => push_data(alloc, text, *form, asked, laboratory),
     }
 }

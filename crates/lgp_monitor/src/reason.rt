@@ -1,13 +1,13 @@
 //! What is said after replies: the reasons of refusals, and the machine's state after a run that is reported.
 
 ghost use Rattle.std.specs.Prelude.{◌≡◌, ◌++◌, OnOk};
-ghost use Rattle.lgp_monitor.specs.Reasons.{ends_open, explained_text, leaves_open, reason_of, refused_text, run_end_text};
+ghost use Rattle.lgp_monitor.specs.Reasons.{explained_text, leaves_open, ran_text_in, reason_of, refused_text, run_end_text, stood_text};
 
-use crate::run_end::push_stand;
-use lgp_debugger::{Ran, Reason};
+use crate::run_end::{ends_open, push_ran, push_stand};
+use crate::telling::Report;
+use lgp_fields::Form;
 use lgp_script::{Laboratory, Refusal, Reply, push_refusal_words};
 use lgp_text::{Piece, push_pieces};
-use lgp_trace::Form;
 use std::alloc::{AllocError, Allocator};
 
 /// Why a command is refused.
@@ -16,14 +16,14 @@ fn reason_of(refusal: &Refusal) -> &'static [u8]
     ensures { result.now ≡ reason_of refusal.now }
 {
     match refusal {
-        Refusal::Form => b"it is in no command's form",
-        Refusal::Moving => b"the machine is running; press manual halts it",
-        Refusal::AtWork => b"the machine is running, and turn needs it at rest",
+        Refusal::Form => b"no command has this form",
+        Refusal::Moving => b"the machine is running; press manual to halt it",
+        Refusal::AtWork => b"the machine is running, and turn needs it to be at rest",
         Refusal::ClockEnd => b"the clock would pass its limit, 4611686018427387904",
-        Refusal::Full => b"there are 64 rules already; drop removes one",
-        Refusal::NoRule => b"no rule has this number; rules lists them",
+        Refusal::Full => b"there are already 64 rules; drop removes one",
+        Refusal::NoRule => b"no rule has this number; the command rules lists them",
         Refusal::TooFar(_) => b"only this many orders are kept",
-        Refusal::NoHit(_) => b"no rule hits any of the kept orders, of which there are this many",
+        Refusal::NoHit(_) => b"this many orders are kept, and no rule hits any of them",
         Refusal::NoImage => b"no source has been assembled yet",
         Refusal::TooLong => b"a line may have at most 4096 bytes, a source at most 1048576",
         Refusal::BadSign(_) => {
@@ -67,17 +67,6 @@ pub fn push_explained<A: Allocator + Copy>(
     }
 }
 
-/// Whether a run leaves open in which state the machine is.
-fn ends_open(ran: &Ran) -> bool
-    ensures { result ≡ ends_open ran.now.orders ran.now.reason }
-{
-    match ran.reason {
-        Reason::Rest => ran.orders == 0,
-        Reason::Rule(_) => true,
-        Reason::Limit => false,
-    }
-}
-
 /// Whether a reply leaves open in which state the machine is.
 fn leaves_open(reply: &Reply) -> bool
     ensures { result ≡ leaves_open reply.now }
@@ -88,21 +77,56 @@ fn leaves_open(reply: &Reply) -> bool
     }
 }
 
-/// Appends the reply to a run that is reported in a form, with what is said after it.
-#[tactic(auto, unfolding(crate::specs::Reasons::run_end_text))]
-pub fn push_run_end<A: Allocator + Copy>(
+/// Appends the reply to a run that is reported in columns, with what is said after it.
+#[tactic(auto, unfolding(crate::specs::Reasons::stood_text))]
+fn push_stood<A: Allocator + Copy>(
     text: &mut Vec<u8, A>,
-    form: Form,
     laboratory: &Laboratory<A>,
     reply: &Reply,
 ) -> Result<(), AllocError>
     ensures { OnOk result (text.new.items
-        ≡ text.old.items ++ run_end_text form laboratory.now reply.now) }
+        ≡ text.old.items ++ stood_text laboratory.now reply.now) }
 {
     push_explained(text, laboratory, reply)?;
     if !leaves_open(reply) {
         return Ok(());
     }
     let look = laboratory.debugger().look();
-    push_stand(text, form, look.status, look.mode)
+    push_stand(text, look.status, look.mode)
+}
+
+/// Appends the reply to a run that is reported by records, as a record; a refusal with its reason.
+fn push_ran_record<A: Allocator + Copy>(
+    text: &mut Vec<u8, A>,
+    form: Form,
+    laboratory: &Laboratory<A>,
+    reply: &Reply,
+) -> Result<(), AllocError>
+    ensures { OnOk result (text.new.items
+        ≡ text.old.items ++ ran_text_in form laboratory.now reply.now) }
+{
+    match reply {
+        Reply::Ran(ran) => {
+            let look = laboratory.debugger().look();
+            push_ran(text, form, ran, look.status, look.mode)
+        }
+        _ => push_explained(text, laboratory, reply),
+    }
+}
+
+/// Appends the reply to a run that is reported in a form, with what is said after it.
+#[tactic(auto, unfolding(crate::specs::Reasons::run_end_text))]
+pub fn push_run_end<A: Allocator + Copy>(
+    text: &mut Vec<u8, A>,
+    form: Report,
+    laboratory: &Laboratory<A>,
+    reply: &Reply,
+) -> Result<(), AllocError>
+    ensures { OnOk result (text.new.items
+        ≡ text.old.items ++ run_end_text form laboratory.now reply.now) }
+{
+    match form {
+        Report::Columns => push_stood(text, laboratory, reply),
+        Report::Records(form) => push_ran_record(text, form, laboratory, reply),
+    }
 }

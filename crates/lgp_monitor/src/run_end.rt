@@ -1,86 +1,138 @@
-//! What is said after a run that leaves the machine's state open.
+//! What is said after a run that is reported.
 
-ghost use Rattle.std.specs.Prelude.{◌≡◌, ◌++◌, OnOk};
-ghost use Rattle.lgp_monitor.specs.RunEnds.{front_of_state, halt_text, stand_text, start_text, state_text, way_text};
+ghost use Rattle.std.specs.Prelude.{◌≡◌, ◌++◌, ◌∷◌, [], ◌==◌, OnOk, codes, if◌then◌else◌};
+ghost use Rattle.lgp_text.specs.Pieces.{pieces_text};
+ghost use Rattle.lgp_fields.specs.Printed.{record_in};
+ghost use Rattle.lgp_fields.specs.Plain.{Nothing, Text};
+ghost use Rattle.lgp_fields.specs.Seen.{value_seen};
+ghost use Rattle.lgp_table.specs.declared.panel.Mode.{Mode};
+ghost use Rattle.lgp_table.specs.declared.panel.Status.{Status};
+ghost use Rattle.lgp_monitor.specs.RunEnds.{ends_open, ran_record, ran_words, reason_words, rule_words, stand_text, stand_words};
 
-use lgp_table::{Cause, Mode, Status};
+use lgp_data::{state_sentence, way_sentence};
+use lgp_debugger::{Ran, Reason};
+use lgp_fields::{Field, Form, Value, push_record};
+use lgp_table::{Mode, Status};
 use lgp_text::{Piece, push_pieces};
-use lgp_trace::Form;
 use std::alloc::{AllocError, Allocator};
 
-/// What halted the machine.
-fn halt_text(cause: Cause) -> &'static [u8]
-    ensures { result.now ≡ halt_text cause }
+/// Whether a run leaves open in which state the machine is.
+pub fn ends_open(ran: &Ran) -> bool
+    ensures { result ≡ ends_open ran.now.orders ran.now.reason }
 {
-    match cause {
-        Cause::Operator => b"the operator halted the machine, or has not started it",
-        Cause::Stop => b"a stop order halted the machine",
-        Cause::Overflow => b"an overflow halted the machine",
-        Cause::Step => b"the machine halted after one operation",
+    match ran.reason {
+        Reason::Rest => ran.orders == 0,
+        Reason::Rule(_) => true,
+        Reason::Limit => false,
     }
 }
 
-/// What starts the machine.
-fn start_text(mode: Mode) -> &'static [u8]
-    ensures { result.now ≡ start_text mode }
+/// The machine's state, and what lets it go on.
+fn stand_pieces(status: Status, mode: Mode) -> [Piece<'static>; 3]
+    ensures { pieces_text result ≡ stand_words status mode }
 {
-    match mode {
-        Mode::Normal => b": press start continues\n",
-        Mode::OneOperation => b": press start performs one order\n",
-        Mode::Manual => b": press normal, then press start continues\n",
-    }
+    [
+        Piece::Text(state_sentence(status)),
+        Piece::Text(b": "),
+        Piece::Text(way_sentence(status, mode)),
+    ]
 }
 
-/// What is in front of the machine's state: blanks for people, and a key for programs.
-fn front_of_state(form: Form) -> &'static [u8]
-    ensures { result.now ≡ front_of_state form }
-{
-    match form {
-        Form::Columns => b"        ",
-        Form::Data => b"state ",
-    }
-}
-
-/// The machine's state.
-fn state_text(status: Status) -> &'static [u8]
-    ensures { result.now ≡ state_text status }
-{
-    match status {
-        Status::Halted(cause) => halt_text(cause),
-        Status::Waiting => b"an input is waiting for codes",
-        Status::Going | Status::Executing | Status::Reading => b"the machine is still going",
-    }
-}
-
-/// What lets the machine go on.
-fn way_text(status: Status, mode: Mode) -> &'static [u8]
-    ensures { result.now ≡ way_text status mode }
-{
-    match status {
-        Status::Halted(_) => start_text(mode),
-        Status::Waiting => b": press read starts the tape, press compute ends the input\n",
-        Status::Going | Status::Executing | Status::Reading => {
-            b": run continues, press manual halts it\n"
-        }
-    }
-}
-
-/// Appends the machine's state, and what lets it go on, in a form.
+/// Appends the machine's state, and what lets it go on, after blanks.
 #[tactic(auto, unfolding(crate::specs::RunEnds::stand_text))]
 pub fn push_stand<A: Allocator>(
     text: &mut Vec<u8, A>,
-    form: Form,
     status: Status,
     mode: Mode,
 ) -> Result<(), AllocError>
-    ensures { OnOk result (text.new.items ≡ text.old.items ++ stand_text form status mode) }
+    ensures { OnOk result (text.new.items ≡ text.old.items ++ stand_text status mode) }
 {
-    push_pieces(
+    text.extend_from_slice(b"        ")?;
+    push_pieces(text, &stand_pieces(status, mode))?;
+    text.extend_from_slice(b"\n")
+}
+
+/// What ended a run.
+fn reason_words(reason: Reason) -> &'static [u8]
+    ensures { result.now ≡ reason_words reason }
+{
+    match reason {
+        Reason::Rest => b" rest",
+        Reason::Limit => b" limit",
+        Reason::Rule(_) => b" rule ",
+    }
+}
+
+/// The number of the rule that stopped a run.
+fn rule_piece(reason: Reason) -> Piece<'static>
+    ensures { pieces_text (result ∷ []) ≡ rule_words reason }
+{
+    match reason {
+        Reason::Rule(number) => Piece::Number(u64::from(number)),
+        Reason::Rest | Reason::Limit => Piece::Text(b""),
+    }
+}
+
+/// How many orders a run performed, and what ended it.
+fn ran_pieces(ran: &Ran) -> [Piece<'static>; 3]
+    ensures { pieces_text result ≡ ran_words ran.now }
+{
+    [
+        Piece::Number(ran.orders),
+        Piece::Text(reason_words(ran.reason)),
+        rule_piece(ran.reason),
+    ]
+}
+
+/// The machine's state, where a run leaves it open.
+fn stand_value<'a>(ran: &Ran, pieces: &'a [Piece<'a>]) -> Value<'a>
+    ensures { value_seen result ≡ (if ends_open ran.now.orders ran.now.reason
+        then Text (pieces_text pieces.now) else Nothing) }
+{
+    if ends_open(ran) {
+        Value::Pieces(pieces)
+    } else {
+        Value::Nothing
+    }
+}
+
+/// Appends what a run came to, with its words and the machine's state.
+#[tactic(auto, unfolding(crate::specs::RunEnds::ran_record))]
+fn push_words<'a, A: Allocator>(
+    text: &mut Vec<u8, A>,
+    form: Form,
+    ran: &Ran,
+    words: &'a [Piece<'a>],
+    stand: &'a [Piece<'a>],
+) -> Result<(), AllocError>
+    requires { pieces_text words.now ≡ ran_words ran.now }
+    ensures { (status : Status) → (mode : Mode) → pieces_text stand.now ≡ stand_words status mode
+        → OnOk result (text.new.items
+        ≡ text.old.items ++ record_in form (ran_record ran.now status mode)) }
+{
+    let fields: [Field; 2] = [
+        (b"ran", Value::Pieces(words)),
+        (b"state", stand_value(ran, stand)),
+    ];
+    push_record(text, form, &fields)
+}
+
+/// Appends what a run came to as a record in a form.
+pub fn push_ran<A: Allocator>(
+    text: &mut Vec<u8, A>,
+    form: Form,
+    ran: &Ran,
+    status: Status,
+    mode: Mode,
+) -> Result<(), AllocError>
+    ensures { OnOk result (text.new.items
+        ≡ text.old.items ++ record_in form (ran_record ran.now status mode)) }
+{
+    push_words(
         text,
-        &[
-            Piece::Text(front_of_state(form)),
-            Piece::Text(state_text(status)),
-            Piece::Text(way_text(status, mode)),
-        ],
+        form,
+        ran,
+        &ran_pieces(ran),
+        &stand_pieces(status, mode),
     )
 }

@@ -9,40 +9,50 @@ ghost use Rattle.lgp_debugger.specs.Run.{UnlessMemory, orders_of, run_of};
 ghost use Rattle.lgp_script.specs.HistoryCommands.{orders_run, replied_to_run};
 ghost use Rattle.lgp_script.specs.LabState.{labels_of};
 ghost use Rattle.lgp_script.specs.Reply.{IsReplied};
-ghost use Rattle.lgp_monitor.specs.Telling.{form_of, reported_text};
+ghost use Rattle.lgp_monitor.specs.Telling.{form_of, profile_text_in, reported_text};
 ghost use Rattle.lgp_monitor.specs.TellingInside.{sectors_told};
 
 use crate::labels::NamedAddresses;
 use lgp_assembler::Name;
-use lgp_data::{push_optimum_data, push_word_optimum_data};
+use lgp_data::{AccountRecords, push_optimum_data, push_profile_data, push_word_optimum_data};
 use lgp_debugger::{Debugger, Ran, RunFault, RunRefusal};
+use lgp_fields::Form;
 use lgp_history::Records;
 use lgp_script::{Laboratory, Reply, Teller};
 use lgp_trace::{
-    Form, Optimum, Profile, draw_run, optimum_run, profile_run, push_heading_in, push_optimum,
-    push_profile_in, push_rows_begun, push_rows_ended, push_word_optimum, trace_run,
+    InColumns, Optimum, Profile, draw_run, optimum_run, profile_run, push_heading, push_optimum,
+    push_profile, push_rows_begun, push_rows_ended, push_word_optimum, trace_run,
 };
 use lgp_word::Address;
 use std::alloc::{AllocError, Allocator};
+
+/// In which form a run is reported.
+#[derive(Clone, Copy, Debug, PartialEq, Eq)]
+pub enum Report {
+    /// In columns, for people.
+    Columns,
+    /// As records, for programs.
+    Records(Form),
+}
 
 /// How a run is reported.
 #[derive(Clone, Copy)]
 pub enum Telling {
     /// By the account of each order, in a form.
-    Trace(Form),
+    Trace(Report),
     /// By what all orders took together, in a form.
-    Profile(Form),
+    Profile(Report),
     /// By its orders along the drum.
     Drum,
     /// By the words that would have cost less at other sectors, in a form.
-    Optimum(Form),
+    Optimum(Report),
     /// By what one word would have cost at each sector, in a form.
-    OptimumOf(Form, Address),
+    OptimumOf(Report, Address),
 }
 
 impl Telling {
     /// The form in which the run is reported.
-    pub fn form(&self) -> Form
+    pub fn form(&self) -> Report
         ensures { result ≡ form_of self.now }
     {
         match self {
@@ -50,7 +60,7 @@ impl Telling {
             | Telling::Profile(form)
             | Telling::Optimum(form)
             | Telling::OptimumOf(form, _) => *form,
-            Telling::Drum => Form::Columns,
+            Telling::Drum => Report::Columns,
         }
     }
 }
@@ -61,10 +71,33 @@ const NO_MEMORY: RunFault = RunFault {
     fault: RunRefusal::Memory,
 };
 
+/// Runs a debugger as `run` does, and appends the accounts of its orders in columns.
+#[tactic(auto, unfolding(crate::specs::Telling::reported_text))]
+fn trace_columns<A: Allocator + Copy>(
+    debugger: &mut Debugger<Records<A>, A>,
+    limit: u64,
+    names: &[(Name, u16)],
+    text: &mut Vec<u8, A>,
+) -> Result<Ran, RunFault>
+    ensures ran { UnlessMemory result
+        (run_of debugger.old.rules limit debugger.old.state ≡ result) }
+    ensures performed { UnlessMemory result
+        (debugger.new ≡ performed debugger.old (orders_of result)) }
+    ensures reported { UnlessMemory result (text.new.items ≡ text.old.items
+        ++ reported_text (Telling.Trace Report.Columns) names.now debugger.old.state
+        (order_origins debugger.old) (orders_of result)) }
+{
+    if push_heading(text).is_err() {
+        return Err(NO_MEMORY);
+    }
+    let labels = NamedAddresses { names };
+    trace_run(debugger, limit, text, &InColumns { labels: &labels })
+}
+
 /// Tells a run by the account of each order.
 #[derive(Drop)]
 struct OrderByOrder {
-    form: Form,
+    form: Report,
 }
 
 impl Teller for OrderByOrder {
@@ -81,17 +114,36 @@ impl Teller for OrderByOrder {
         names: &[(Name, u16)],
         text: &mut Vec<u8, A>,
     ) -> Result<Ran, RunFault> {
-        if push_heading_in(text, self.form).is_err() {
-            return Err(NO_MEMORY);
+        match self.form {
+            Report::Columns => trace_columns(debugger, limit, names, text),
+            Report::Records(form) => {
+                trace_run(debugger, limit, text, &AccountRecords { form, names })
+            }
         }
-        trace_run(debugger, limit, self.form, text, &NamedAddresses { names })
+    }
+}
+
+/// Appends the profile of a given number of orders in a form.
+fn push_added_up<A: Allocator>(
+    text: &mut Vec<u8, A>,
+    form: Report,
+    orders: u64,
+    profile: &Profile<A>,
+    names: &[(Name, u16)],
+) -> Result<(), AllocError>
+    ensures { OnOk result (text.new.items
+        ≡ text.old.items ++ profile_text_in form names.now orders profile.now) }
+{
+    match form {
+        Report::Columns => push_profile(text, orders, profile, &NamedAddresses { names }),
+        Report::Records(form) => push_profile_data(text, form, names, orders, profile),
     }
 }
 
 /// Tells a run by what all orders took together.
 #[derive(Drop)]
 struct AddedUp {
-    form: Form,
+    form: Report,
 }
 
 impl Teller for AddedUp {
@@ -116,8 +168,7 @@ impl Teller for AddedUp {
             Ok(ran) => ran.orders,
             Err(fault) => fault.orders,
         };
-        let labels = NamedAddresses { names };
-        if push_profile_in(text, self.form, orders, &profile, &labels).is_err() {
+        if push_added_up(text, self.form, orders, &profile, names).is_err() {
             return Err(NO_MEMORY);
         }
         outcome
@@ -178,22 +229,21 @@ fn push_sectors<A: Allocator + Copy>(
 {
     let labels = NamedAddresses { names };
     match (sectors.form, sectors.word) {
-        (Form::Columns, Some(word)) => push_word_optimum(text, orders, optimum, word, &labels),
-        (Form::Columns, None) => push_optimum(alloc, text, orders, optimum, &labels),
-        (Form::Data, Some(word)) => {
-            push_word_optimum_data(text, LINES, names, orders, optimum, word)
+        (Report::Columns, Some(word)) => push_word_optimum(text, orders, optimum, word, &labels),
+        (Report::Columns, None) => push_optimum(alloc, text, orders, optimum, &labels),
+        (Report::Records(form), Some(word)) => {
+            push_word_optimum_data(text, form, names, orders, optimum, word)
         }
-        (Form::Data, None) => push_optimum_data(alloc, text, LINES, names, orders, optimum),
+        (Report::Records(form), None) => {
+            push_optimum_data(alloc, text, form, names, orders, optimum)
+        }
     }
 }
-
-/// The form of what is reported for programs.
-const LINES: lgp_fields::Form = lgp_fields::Form::Lines;
 
 /// Tells a run by the words that would have cost less at other sectors, or by what one word would have cost at each, in a form.
 #[derive(Drop)]
 struct BySectors {
-    form: Form,
+    form: Report,
     word: Option<Address>,
 }
 

@@ -4,8 +4,9 @@ ghost use Rattle.std.specs.Prelude.{◌≡◌};
 ghost use Rattle.lgp_text.specs.NamedValues.{named, pairs_of};
 ghost use Rattle.lgp_monitor.specs.Verbs.{only_asks, operands_form, operands_kind, takes_address, verb_names};
 
+use crate::telling::Report;
+use lgp_fields::Form;
 use lgp_text::{Named, value_named};
-use lgp_trace::Form;
 
 /// A command with nothing after its name.
 #[derive(Clone, Copy)]
@@ -59,8 +60,8 @@ pub enum NumberCommand {
     /// One of scripts.
     Script,
     /// Runs that are reported.
-    Trace(Form),
-    Profile(Form),
+    Trace(Report),
+    Profile(Report),
     Drum,
     /// Runs that an operator's typewriter starts again.
     Operate,
@@ -78,11 +79,13 @@ pub enum Verb {
     /// A number.
     Number(NumberCommand),
     /// A number, and perhaps an address; what is reported has a form.
-    NumberAddress(Form),
+    NumberAddress(Report),
     /// An address, and how many words from it on.
     Range(RangeCommand),
     /// The same, and perhaps the place after which their point is.
     ScaledRange,
+    /// The same, and a number of printed codes.
+    CountedRange,
     /// An address and a word.
     Word,
     /// A text.
@@ -93,6 +96,8 @@ pub enum Verb {
     Source,
     /// A file, in the program.
     File,
+    /// A line for programs.
+    Line,
     /// A command or nothing.
     Command,
     /// Nothing, in the program.
@@ -100,7 +105,7 @@ pub enum Verb {
 }
 
 /// The commands by their first word.
-const VERBS: [Named<Verb>; 67] = [
+const VERBS: [Named<Verb>; 69] = [
     (b"put", Verb::Word),
     (b"go", Verb::Address(AddressCommand::Go)),
     (b"mount", Verb::Text),
@@ -110,13 +115,16 @@ const VERBS: [Named<Verb>; 67] = [
     (b"orders", Verb::Number(NumberCommand::Script)),
     (b"run", Verb::Number(NumberCommand::Script)),
     (b"operate", Verb::Number(NumberCommand::Operate)),
-    (b"trace", Verb::Number(NumberCommand::Trace(Form::Columns))),
+    (
+        b"trace",
+        Verb::Number(NumberCommand::Trace(Report::Columns)),
+    ),
     (
         b"profile",
-        Verb::Number(NumberCommand::Profile(Form::Columns)),
+        Verb::Number(NumberCommand::Profile(Report::Columns)),
     ),
     (b"drum", Verb::Number(NumberCommand::Drum)),
-    (b"optimum", Verb::NumberAddress(Form::Columns)),
+    (b"optimum", Verb::NumberAddress(Report::Columns)),
     (b"why", Verb::Address(AddressCommand::Why)),
     (b"back", Verb::Number(NumberCommand::Script)),
     (b"last", Verb::Lone(LoneCommand::Script)),
@@ -166,13 +174,18 @@ const VERBS: [Named<Verb>; 67] = [
     (b"cost", Verb::Address(AddressCommand::Cost)),
     (
         b"trace-data",
-        Verb::Number(NumberCommand::Trace(Form::Data)),
+        Verb::Number(NumberCommand::Trace(Report::Records(Form::Lines))),
     ),
     (
         b"profile-data",
-        Verb::Number(NumberCommand::Profile(Form::Data)),
+        Verb::Number(NumberCommand::Profile(Report::Records(Form::Lines))),
     ),
-    (b"optimum-data", Verb::NumberAddress(Form::Data)),
+    (
+        b"optimum-data",
+        Verb::NumberAddress(Report::Records(Form::Lines)),
+    ),
+    (b"look", Verb::CountedRange),
+    (b"json", Verb::Line),
     (b"transcript", Verb::Lone(LoneCommand::Transcript)),
     (b"new", Verb::Lone(LoneCommand::New)),
     (b"help", Verb::Command),
@@ -202,10 +215,11 @@ pub fn operands_form(verb: Verb) -> &'static [u8]
         Verb::Lone(_) => b"",
         Verb::Address(_) => b" ttss",
         Verb::Number(_) => b" NUMBER",
-        Verb::NumberAddress(Form::Columns) => b" NUMBER or optimum NUMBER ttss",
-        Verb::NumberAddress(Form::Data) => b" NUMBER or optimum-data NUMBER ttss",
+        Verb::NumberAddress(Report::Columns) => b" NUMBER or optimum NUMBER ttss",
+        Verb::NumberAddress(Report::Records(_)) => b" NUMBER or optimum-data NUMBER ttss",
         Verb::Range(_) => b" ttss NUMBER, at most 64",
         Verb::ScaledRange => b" ttss NUMBER, at most 64, or numbers ttss NUMBER POINT",
+        Verb::CountedRange => b" ttss NUMBER, at most 64, and how many printed codes are known",
         Verb::Word => {
             b" ttss WORD, FRACTION or OPERATION as in a source, or put ttss = NUMBER or = NUMBER POINT"
         }
@@ -217,6 +231,7 @@ pub fn operands_form(verb: Verb) -> &'static [u8]
             b", then its lines, then a line with only a point; in the program lgp_monitor also source FILE"
         }
         Verb::File => b" FILE, in the program lgp_monitor",
+        Verb::Line => b" LINE, where LINE is one for programs, such as state-data",
         Verb::Command => b" or help COMMAND",
         Verb::End => b", which ends the program lgp_monitor",
     }
@@ -231,12 +246,13 @@ pub fn operands_kind(verb: Verb) -> &'static [u8]
         Verb::Lone(_) | Verb::End => b" alone\n",
         Verb::Address(_) => b" address\n",
         Verb::Number(_) | Verb::NumberAddress(_) => b" number\n",
-        Verb::Range(_) | Verb::ScaledRange => b" range\n",
+        Verb::Range(_) | Verb::ScaledRange | Verb::CountedRange => b" range\n",
         Verb::Word => b" address word\n",
         Verb::Text => b" text\n",
         Verb::Key => b" button\n",
         Verb::Source => b" source\n",
         Verb::File => b" file\n",
+        Verb::Line => b" line\n",
         Verb::Command => b" command\n",
     }
 }
@@ -254,7 +270,7 @@ pub fn only_asks(verb: Verb) -> bool
             )
         }
         Verb::Number(command) => matches!(command, NumberCommand::PaperData),
-        Verb::Range(_) | Verb::ScaledRange | Verb::Command => true,
+        Verb::Range(_) | Verb::ScaledRange | Verb::CountedRange | Verb::Command => true,
         _ => false,
     }
 }
@@ -265,6 +281,6 @@ pub fn takes_address(verb: Verb) -> bool
 {
     matches!(
         verb,
-        Verb::Address(_) | Verb::Range(_) | Verb::ScaledRange | Verb::Word
+        Verb::Address(_) | Verb::Range(_) | Verb::ScaledRange | Verb::CountedRange | Verb::Word
     )
 }

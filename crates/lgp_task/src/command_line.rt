@@ -186,8 +186,8 @@ fn script_command<'a>(global: Global) -> Result<Command<'a>, AllocError>
         global,
         "script",
         "Run a script and write its replies",
-        "Run a script, a command of the laboratory on each line, on a new machine, and write the \
-         reply to each command.",
+        "Run a script, which has a command of the laboratory on each line, on a new machine, and \
+         write the reply to each command.",
         "Example: run the commands in a file.\n  lgp_lab script examples/first-run.txt",
         "The script, a text file",
     )
@@ -271,12 +271,12 @@ pub(crate) fn monitor_line<'a>(global: Global) -> Result<Command<'a>, AllocError
         "lgp_monitor",
         "A monitor for the LGP-30: run the machine line by line",
         "A monitor for the LGP-30, a drum computer of 1956. It reads lines, first from the files \
-         and then from standard input, carries out each of them, and writes its reply. The line \
-         help lists the commands.",
+         and then from standard input, carries out each of them, and writes its reply. The \
+         command help lists the commands.",
         "Example: answer the lines in a file, and then those that are typed.\n  \
          lgp_monitor examples/self-modifying.typed",
     );
-    let help = "Text files with lines that are read before standard input";
+    let help = "Text files whose lines are read before standard input";
     let line = with_argument(line, any_files(global, help));
     let echo = flag(global, ECHO, "Show each line above its reply");
     let line = with_argument(line, echo);

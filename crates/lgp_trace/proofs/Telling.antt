@@ -1,5 +1,5 @@
 -- What the watchers of runs keep.
-use Rattle.std.proofs.Common.{◌≡◌, ◌∙◌, ℕ, zero, suc, ◌++◌, List, append_assoc, sym, ap}
+use Rattle.std.proofs.Common.{◌≡◌, ◌∙◌, ℕ, zero, suc, ◌++◌, List, Option, append_assoc, sym, ap}
 use Rattle.std.proofs.lemmas.List.{append-nil}
 use Rattle.lgp_table.specs.After.{after}
 use Rattle.lgp_table.specs.State.{State}
@@ -10,26 +10,27 @@ use Rattle.lgp_trace.specs.Account.{account_of, place_of}
 use Rattle.lgp_trace.specs.DrumRows.{signs_in_rows, signs_of}
 use Rattle.lgp_trace.specs.Phases.{phases_of}
 use Rattle.lgp_trace.specs.Profile.{Profiled, empty_profile, profile_of, with_activity}
-use Rattle.lgp_trace.specs.Runs.{account_in, drawn, reported}
-use Rattle.lgp_trace.specs.declared.form.Form.{Form}
+use Rattle.lgp_trace.specs.Runs.{drawn, reported}
+use Rattle.lgp_trace.specs.declared.account.Account.{Account}
+use Rattle.lgp_history.specs.declared.origin.Origin.{Origin}
 
 -- the lines of an order, drawn and reported
-abbrev order_reported : Form → (ℕ → List ℕ) → Debugging → List ℕ
-order_reported form label d = account_in form label (account_of d.state) (order_origin d)
+abbrev order_reported : (Account → Option Origin → List ℕ) → Debugging → List ℕ
+order_reported told d = told (account_of d.state) (order_origin d)
 
 abbrev order_drawn : State → List ℕ
 order_drawn s = signs_in_rows s.clock (signs_of (account_of s))
 
-pub seen_reported : (form : Form) (label : ℕ → List ℕ) (Text : Type 0) (items : Text → List ℕ) (d : Debugging) (first text : Text) (count : ℕ)
-    → AreSeen (λ (d : Debugging) (before after : Text). items after ≡ items before ++ account_in form label (account_of d.state) (order_origin d)) d first count text
-    → items text ≡ items first ++ reported form label d.state (order_origins d) count
+pub seen_reported : (told : Account → Option Origin → List ℕ) (Text : Type 0) (items : Text → List ℕ) (d : Debugging) (first text : Text) (count : ℕ)
+    → AreSeen (λ (d : Debugging) (before after : Text). items after ≡ items before ++ told (account_of d.state) (order_origin d)) d first count text
+    → items text ≡ items first ++ reported told d.state (order_origins d) count
 unfolding AreSeen reported order_origins
-seen_reported form label Text items d first text zero is = ap items is ∙ sym (append-nil (items first))
-seen_reported form label Text items d first text (suc count) (before, so_far, seen) =
+seen_reported told Text items d first text zero is = ap items is ∙ sym (append-nil (items first))
+seen_reported told Text items d first text (suc count) (before, so_far, seen) =
     seen
-    ∙ ap (λ (t : List ℕ). t ++ order_reported form label (performed d count)) (seen_reported form label Text items d first before count so_far)
-    ∙ append_assoc (items first) (reported form label d.state (order_origins d) count) (order_reported form label (performed d count))
-    ∙ ap (λ (s : State). items first ++ (reported form label d.state (order_origins d) count ++ account_in form label (account_of s) (order_origin (performed d count)))) (performed_state d count)
+    ∙ ap (λ (t : List ℕ). t ++ order_reported told (performed d count)) (seen_reported told Text items d first before count so_far)
+    ∙ append_assoc (items first) (reported told d.state (order_origins d) count) (order_reported told (performed d count))
+    ∙ ap (λ (s : State). items first ++ (reported told d.state (order_origins d) count ++ told (account_of s) (order_origin (performed d count)))) (performed_state d count)
 
 pub seen_drawn : (Text : Type 0) (items : Text → List ℕ) (d : Debugging) (first text : Text) (count : ℕ)
     → AreSeen (λ (d : Debugging) (before after : Text). items after ≡ items before ++ signs_in_rows d.state.clock (signs_of (account_of d.state))) d first count text

@@ -5,10 +5,8 @@ pub mod Columns
 pub mod AccountLines
 pub mod OriginLines
 pub mod PhrasesInside
-pub mod AccountData
 pub mod DrumRows
 pub mod ProfileLines
-pub mod ProfileData
 pub mod Runs
 pub mod UnchangedInside
 pub mod Optimum

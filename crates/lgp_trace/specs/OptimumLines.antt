@@ -33,9 +33,9 @@ unfoldable pub section_heading : Freedom → List ℕ
 section_heading freedoms.Free = codes "the ten words with most to gain\n"
 section_heading freedoms.Unnamed = codes "named by no order\n"
 section_heading freedoms.Performed =
-    codes "not to be moved, since they were performed as orders\n"
+    codes "should not be moved, because they were performed as orders\n"
 section_heading freedoms.NamedByChanged =
-    codes "not to be moved, since a changed order named them, or one in the register alone\n"
+    codes "should not be moved, because a changed order or one only in the register named them\n"
 
 -- the ten words of a freedom with most to gain; nothing where none has anything to gain
 unfoldable pub section_text : (ℕ → List ℕ) → Moves → Freedom → List ℕ
@@ -107,11 +107,11 @@ saved_text saved sector =
 unfoldable pub freedom_text : Freedom → Best → List ℕ
 freedom_text freedoms.Free best = saved_text best.saved best.sector
 freedom_text freedoms.Unnamed best =
-    codes "  no order named it: wherever it stands, they take as long\n"
+    codes "  no order named it, so its sector makes no difference\n"
 freedom_text freedoms.Performed best =
-    codes "  it is not to be moved, since it was performed as an order\n"
+    codes "  it should not be moved, because it was performed as an order\n"
 freedom_text freedoms.NamedByChanged best =
-    codes "  it is not to be moved, since a changed order named it, or one in the register alone\n"
+    codes "  it should not be moved, because a changed order or one only in the register named it\n"
 
 -- the numbers of a word along its track; nothing where no order named it
 abbrev pub drawing_of : Moves → ℕ → Freedom → List ℕ

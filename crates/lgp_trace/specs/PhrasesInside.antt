@@ -7,8 +7,6 @@ use Rattle.lgp_trace.specs.AccountLines.{number_text, performed_text, place_text
 use Rattle.lgp_trace.specs.Columns.{right_aligned, spaced_number}
 use Rattle.lgp_trace.specs.OriginLines.{lost_text}
 use Rattle.lgp_trace.specs.ProfileLines.{part_line, share_text, turns_text}
-use Rattle.lgp_trace.specs.declared.phrases.DataLine.{DataLine}
-use Rattle.lgp_trace.specs.declared.phrases.DataLine.TheVariants.{Keyed, Whole}
 use Rattle.lgp_trace.specs.declared.phrases.Phrase.{Phrase}
 use Rattle.lgp_trace.specs.declared.phrases.Phrase.TheVariants as phrases
 
@@ -33,11 +31,3 @@ phrase_text label (phrases.Part part times whole) = part_line part times whole
 -- one after another
 abbrev pub phrases_text : (ℕ → List ℕ) → List Phrase → List ℕ
 phrases_text label phrases = concat (map (phrase_text label) phrases)
-
--- a line as it is, or one of a key and a value
-unfoldable pub data_line : (ℕ → List ℕ) → DataLine → List ℕ
-data_line label (Whole line) = line.now
-data_line label (Keyed key value) = key.now ++ (phrase_text label value ++ codes "\n")
-
-abbrev pub data_lines : (ℕ → List ℕ) → List DataLine → List ℕ
-data_lines label lines = concat (map (data_line label) lines)

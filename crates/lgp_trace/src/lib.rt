@@ -2,12 +2,10 @@
 #![tactic(auto)]
 
 mod account;
-mod account_data;
 mod account_lines;
 mod columns;
 mod draw;
 mod drum_rows;
-mod form;
 mod labels;
 pub mod laws;
 mod optimum;
@@ -18,7 +16,6 @@ mod origin_lines;
 mod phases;
 mod phrases;
 mod profile;
-mod profile_data;
 mod profile_lines;
 mod ranking;
 mod runs;
@@ -33,7 +30,6 @@ pub use account_lines::{
 };
 pub use draw::draw_run;
 pub use drum_rows::{push_drum, push_rows_begun, push_rows_ended};
-pub use form::Form;
 pub use labels::{Labels, NoLabels};
 pub use optimum::{Best, Optimum};
 pub use optimum_lines::{push_optimum, push_word_optimum};
@@ -41,9 +37,8 @@ pub use optimum_runs::optimum_run;
 pub use origin_lines::{order_origin, push_origin_lines, push_reported, push_why, push_why_line};
 pub use phases::Phases;
 pub use profile::Profile;
-pub use profile_data::push_profile_in;
-pub use profile_lines::push_profile;
+pub use profile_lines::{Places, push_places, push_profile};
 pub use ranking::Gain;
 pub use runs::profile_run;
-pub use trace::{push_heading_in, trace_run};
+pub use trace::{Accounts, InColumns, trace_run};
 pub use uses::Freedom;

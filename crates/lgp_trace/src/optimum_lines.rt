@@ -69,9 +69,9 @@ fn section_heading(wanted: Freedom) -> &'static [u8]
     match wanted {
         Freedom::Free => b"the ten words with most to gain\n",
         Freedom::Unnamed => b"named by no order\n",
-        Freedom::Performed => b"not to be moved, since they were performed as orders\n",
+        Freedom::Performed => b"should not be moved, because they were performed as orders\n",
         Freedom::NamedByChanged => {
-            b"not to be moved, since a changed order named them, or one in the register alone\n"
+            b"should not be moved, because a changed order or one only in the register named them\n"
         }
     }
 }
@@ -302,10 +302,10 @@ fn push_freedom<A: Allocator>(
 {
     let sentence: &[u8] = match free {
         Freedom::Free => return push_saved(text, best.saved, u64::from(best.sector)),
-        Freedom::Unnamed => b"  no order named it: wherever it stands, they take as long\n",
-        Freedom::Performed => b"  it is not to be moved, since it was performed as an order\n",
+        Freedom::Unnamed => b"  no order named it, so its sector makes no difference\n",
+        Freedom::Performed => b"  it should not be moved, because it was performed as an order\n",
         Freedom::NamedByChanged => {
-            b"  it is not to be moved, since a changed order named it, or one in the register alone\n"
+            b"  it should not be moved, because a changed order or one only in the register named it\n"
         }
     };
     text.extend_from_slice(sentence)

@@ -2,7 +2,7 @@
 
 ghost use Rattle.std.specs.Prelude.{◌≡◌, ◌++◌, OnOk, codes};
 ghost use Rattle.lgp_trace.specs.Columns.{left_aligned};
-ghost use Rattle.lgp_trace.specs.PhrasesInside.{data_line, data_lines, phrase_text, phrases_text};
+ghost use Rattle.lgp_trace.specs.PhrasesInside.{phrase_text, phrases_text};
 
 use crate::account_lines::{push_number, push_performed, push_place, push_word};
 use crate::columns::{push_blanks_after, push_copies, push_right, push_spaced, push_wide};
@@ -109,59 +109,4 @@ pub(crate) fn push_column<L: Labels, A: Allocator>(
     let begins = text.len();
     push_phrase(text, phrase, labels)?;
     push_blanks_after(text, width, begins)
-}
-
-/// A line for programs.
-#[derive(Clone, Copy)]
-pub(crate) enum DataLine<'a> {
-    /// The bytes as they are: a whole line, or nothing.
-    Whole(&'a [u8]),
-    /// A key with its blank, and a value.
-    Keyed(&'a [u8], Phrase<'a>),
-}
-
-/// Appends a line of a key and a value.
-fn push_keyed<L: Labels, A: Allocator>(
-    text: &mut Vec<u8, A>,
-    key: &[u8],
-    value: &Phrase,
-    labels: &L,
-) -> Result<(), AllocError>
-    ensures { OnOk result (text.new.items ≡ text.old.items
-        ++ (key.now ++ (phrase_text (L.label labels.now) value.now ++ codes "\n"))) }
-{
-    text.extend_from_slice(key)?;
-    push_phrase(text, value, labels)?;
-    text.extend_from_slice(b"\n")
-}
-
-/// Appends a line for programs.
-#[tactic(auto, unfolding(crate::specs::PhrasesInside::data_line))]
-fn push_data_line<L: Labels, A: Allocator>(
-    text: &mut Vec<u8, A>,
-    line: &DataLine,
-    labels: &L,
-) -> Result<(), AllocError>
-    ensures { OnOk result (text.new.items
-        ≡ text.old.items ++ data_line (L.label labels.now) line.now) }
-{
-    match line {
-        DataLine::Whole(line) => text.extend_from_slice(line),
-        DataLine::Keyed(key, value) => push_keyed(text, key, value, labels),
-    }
-}
-
-/// Appends lines for programs one after another.
-pub(crate) fn push_data_lines<L: Labels, A: Allocator>(
-    text: &mut Vec<u8, A>,
-    lines: &[DataLine],
-    labels: &L,
-) -> Result<(), AllocError>
-    ensures { OnOk result (text.new.items
-        ≡ text.old.items ++ data_lines (L.label labels.now) lines.now) }
-{
-    for line in lines {
-        push_data_line(text, line, labels)?;
-    }
-    Ok(())
 }

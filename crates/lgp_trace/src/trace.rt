@@ -1,18 +1,16 @@
 //! Runs of a debugger reported order by order.
 
-ghost use Rattle.std.specs.Prelude.{◌≡◌, ◌++◌, ◌^◌, ◌<◌, OnOk, false};
+ghost use Rattle.std.specs.Prelude.{◌≡◌, ◌++◌, ◌^◌, ◌<◌, ℕ, List, OnOk, Option, false};
 ghost use Rattle.lgp_debugger.specs.Debugging.{order_origin, order_origins};
 ghost use Rattle.lgp_debugger.specs.Run.{orders_of};
 ghost use Rattle.lgp_debugger.specs.Watching.{IsWatchedRun};
 ghost use Rattle.lgp_trace.specs.Account.{account_of};
 ghost use Rattle.lgp_trace.specs.Phases.{all_phases};
-ghost use Rattle.lgp_trace.specs.Runs.{account_in, heading_in, reported};
+ghost use Rattle.lgp_trace.specs.OriginLines.{reported_account};
+ghost use Rattle.lgp_trace.specs.Runs.{reported};
 ghost use Rattle.lgp_trace.specs.UnchangedInside.{AreUnchanged};
 
 use crate::account::{Account, Begun};
-use crate::account_data::push_account_data;
-use crate::account_lines::push_heading;
-use crate::form::Form;
 use crate::labels::Labels;
 use crate::origin_lines::push_reported;
 use crate::unchanged::Unchanged;
@@ -20,51 +18,60 @@ use lgp_debugger::{Debugger, Ran, RunFault, WatchFault, Watcher};
 use lgp_history::{Origin, Origins};
 use std::alloc::{AllocError, Allocator};
 
-/// Appends what is written above accounts in a form.
-pub fn push_heading_in<A: Allocator>(text: &mut Vec<u8, A>, form: Form) -> Result<(), AllocError>
-    ensures { OnOk result (text.new.items ≡ text.old.items ++ heading_in form) }
-{
-    match form {
-        Form::Columns => push_heading(text),
-        Form::Data => Ok(()),
-    }
+/// What is written of the orders of a run.
+pub trait Accounts {
+    ghost use Rattle.lgp_history.specs.declared.origin.Origin.{Origin};
+    ghost use Rattle.lgp_trace.specs.declared.account.Account.{Account};
+
+    /// What is written of an order, by its account and where it came from.
+    ghost told: { Self → Account → Option Origin → List ℕ };
+
+    /// Appends what is written of an order.
+    fn push_order<A: Allocator>(
+        &self,
+        text: &mut Vec<u8, A>,
+        account: &Account,
+        origin: Option<Origin>,
+    ) -> Result<(), AllocError>
+        requires { all_phases account.now.phases < 2 ^ 64 }
+        ensures { OnOk result (text.new.items
+            ≡ text.old.items ++ told self.now account.now origin) };
 }
 
-/// Appends an account in a form, with where its order came from.
-fn push_account_in<L: Labels, A: Allocator>(
-    text: &mut Vec<u8, A>,
-    form: Form,
-    account: &Account,
-    origin: Option<Origin>,
-    labels: &L,
-) -> Result<(), AllocError>
-    requires { all_phases account.now.phases < 2 ^ 64 }
-    ensures { OnOk result (text.new.items
-        ≡ text.old.items ++ account_in form (L.label labels.now) account.now origin) }
-{
-    match form {
-        Form::Columns => push_reported(text, account, origin, labels),
-        Form::Data => push_account_data(text, account, origin, labels),
+/// Orders in columns, with labels after addresses.
+#[derive(Clone, Copy, Debug, PartialEq, Eq)]
+pub struct InColumns<'a, L> {
+    pub labels: &'a L,
+}
+
+impl<L: Labels> Accounts for InColumns<'_, L> {
+    ghost told = { λ columns. reported_account (L.label columns.labels.now) };
+
+    fn push_order<A: Allocator>(
+        &self,
+        text: &mut Vec<u8, A>,
+        account: &Account,
+        origin: Option<Origin>,
+    ) -> Result<(), AllocError> {
+        push_reported(text, account, origin, self.labels)
     }
 }
 
 /// Tells each order of a run in a text.
 #[derive(Drop)]
-struct Tracer<'a, L> {
-    form: Form,
-    labels: &'a L,
+struct Tracer<'a, W> {
+    accounts: &'a W,
     unchanged: Unchanged,
 }
 
-impl<H: Origins<A>, L: Labels, A: Allocator, B: Allocator> Watcher<H, A, Vec<u8, B>>
-    for Tracer<'_, L> {
+impl<H: Origins<A>, W: Accounts, A: Allocator, B: Allocator> Watcher<H, A, Vec<u8, B>>
+    for Tracer<'_, W> {
     ghost in_force = { λ _ rules. rules };
 
     ghost ready = { λ tracer d _. AreUnchanged tracer.unchanged.marks d.steps };
 
     ghost Sees = { λ tracer d before after. after.items ≡ before.items
-        ++ account_in tracer.form (L.label tracer.labels.now) (account_of d.state)
-        (order_origin d) };
+        ++ W.told tracer.accounts.now (account_of d.state) (order_origin d) };
 
     ghost never_refused = { false };
 
@@ -84,30 +91,28 @@ impl<H: Origins<A>, L: Labels, A: Allocator, B: Allocator> Watcher<H, A, Vec<u8,
         };
         let account = begun.finish(debugger.machine());
         self.unchanged.note(&account);
-        if push_account_in(text, self.form, &account, origin, self.labels).is_err() {
+        if self.accounts.push_order(text, &account, origin).is_err() {
             return Err(WatchFault::Unseen);
         }
         Ok(stop)
     }
 }
 
-/// Runs a debugger as `Debugger::run` does, and appends of each order its lines in a form, with where it came from. Where the clock's end
+/// Runs a debugger as `Debugger::run` does, and appends what is written of each order. Where the clock's end
 /// refuses an order, those before it remain and are reported. Where memory is refused, as many orders remain as the fault says, and what
 /// the text has after what it had is not said.
-pub fn trace_run<H: Origins<A>, L: Labels, A: Allocator, B: Allocator>(
+pub fn trace_run<H: Origins<A>, W: Accounts, A: Allocator, B: Allocator>(
     debugger: &mut Debugger<H, A>,
     limit: u64,
-    form: Form,
     text: &mut Vec<u8, B>,
-    labels: &L,
+    accounts: &W,
 ) -> Result<Ran, RunFault>
     ensures { IsWatchedRun false debugger.old.rules limit debugger.old debugger.new result
-        (text.new.items ≡ text.old.items ++ reported form (L.label labels.now) debugger.old.state
+        (text.new.items ≡ text.old.items ++ reported (W.told accounts.now) debugger.old.state
         (order_origins debugger.old) (orders_of result)) }
 {
     let mut tracer = Tracer {
-        form,
-        labels,
+        accounts,
         unchanged: Unchanged::new(),
     };
     debugger.run_watched(limit, &mut tracer, text)

@@ -81,7 +81,7 @@ inLaboratory("a refusal is thrown and changes nothing", (laboratory) => {
 });
 
 inLaboratory("a told run that the clock breaks off is refused", (laboratory) => {
-    laboratory.answer = () => "orders 0\n? 4 ClockEnd\n"; // no text brings the clock to its end
+    laboratory.answer = () => "{\"orders\":0}\n? 4 ClockEnd\n"; // no text brings the clock to its end
     assert.throws(() => laboratory.profile(1000), refused("ClockEnd"));
 });
 
@@ -131,9 +131,9 @@ test("memory that cannot grow is told", { skip }, () => {
 
 test("bytes that are no module are told", { skip }, () => {
     const told = (source, message) => assert.throws(() => new Laboratory(source), (failure) => failure instanceof NoModule && message.test(failure.message));
-    told(new Uint8Array(), /^these bytes are no module that is taken here: /);
-    told(bytes.subarray(0, 1000), /^these bytes are no module that is taken here: /);
-    told("lgp_c_region.wasm", /^these bytes are no module that is taken here: /);
+    told(new Uint8Array(), /^these bytes are not a module that can be used here: /);
+    told(bytes.subarray(0, 1000), /^these bytes are not a module that can be used here: /);
+    told("lgp_c_region.wasm", /^these bytes are not a module that can be used here: /);
     told(Uint8Array.of(0, 0x61, 0x73, 0x6d, 1, 0, 0, 0), /^this module is not the laboratory's: it has no lgp_open_in$/);
 });
 

@@ -12,7 +12,7 @@ const module = compiled(readFileSync(new URL("../lgp_c_region.wasm", import.meta
 function readOf(lines) {
     const session = new Session(module);
     for (const line of typedSource(lines)) session.answer(line);
-    return new Source(session.answer("source-data"));
+    return new Source(session.answer("json source-data"));
 }
 
 test("the words of a source, with their columns, places and digits", () => {
@@ -34,5 +34,5 @@ test("faults, each with its columns, and the lines beside them", () => {
 test("a reply that says nothing of a source", () => {
     assert.deepEqual(new Source("").lines, []);
     assert.throws(() => new Source("? 1 Form\n"), ReplyError);
-    assert.throws(() => new Source("line 1\nlabel\n").line(1), ReplyError);
+    assert.throws(() => new Source("line 1\nlabel\n"), ReplyError);
 });

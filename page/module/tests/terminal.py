@@ -324,7 +324,7 @@ def help_that_teaches():
     shown = terminal.type("?\r", BEGUN)
     assert "accounts trace profile" in shown, shown
     shown = terminal.type("help trace\r", BEGUN)
-    assert "trace NUMBER\n    runs, and tells each order" in shown and "    > trace 2\n" in shown and shown.endswith(f"    ran 2 rest\n{BEGUN}"), shown
+    assert "trace NUMBER\n    runs, and describes each order" in shown and "    > trace 2\n" in shown and shown.endswith(f"    ran 2 rest\n{BEGUN}"), shown
     shown = terminal.type("help orders\r", BEGUN)
     assert "b + brings the word into the accumulator\n" in shown, shown
     shown = terminal.type("help source\r", BEGUN)

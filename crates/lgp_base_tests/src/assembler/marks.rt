@@ -7,18 +7,13 @@ use std::alloc::{Allocator, Global};
 /// A line, the kind of its fault, and what is shown.
 type Row = (&'static [u8], FaultKind, &'static [u8]);
 
-static ROWS: [Row; 16] = [
+static ROWS: [Row; 11] = [
     (
         b" b none",
         FaultKind::UnknownName,
         b"         b none\n           ^^^^\n",
     ),
     (b"9a z", FaultKind::BadLabel, b"        9a z\n        ^^\n"),
-    (
-        b" q 0000",
-        FaultKind::UnknownOrder,
-        b"         q 0000\n         ^\n",
-    ),
     // Below a tab is a tab.
     (
         b"\tb\t0064",
@@ -46,29 +41,9 @@ static ROWS: [Row; 16] = [
     ),
     (b" z", FaultKind::AfterEnd, b"         z\n         ^\n"),
     (
-        b" z ; b",
-        FaultKind::PastEnd,
-        b"         z ; b\n         ^\n",
-    ),
-    (
-        b"one z",
-        FaultKind::LabelTwice,
-        b"        one z\n        ^^^\n",
-    ),
-    (
-        b" b ; one",
-        FaultKind::MissingOperand,
-        b"         b ; one\n         ^\n",
-    ),
-    (
         b" b 6363+1",
         FaultKind::OutOfRange,
         b"         b 6363+1\n           ^^^^^^\n",
-    ),
-    (
-        b"one word 4",
-        FaultKind::InLoader,
-        b"        one word 4\n            ^^^^\n",
     ),
     (
         b"one z",
@@ -89,23 +64,6 @@ pub fn is_shown<A: Allocator>(
         Ok(()) => Some(text.as_slice() == wanted),
         Err(_) => None,
     }
-}
-
-/// The place of the first row for which something else is shown.
-fn first_mismarked(alloc: Global) -> usize {
-    let mut place = 0usize;
-    for (line, kind, wanted) in &ROWS {
-        if is_shown(alloc, line, *kind, wanted) != Some(true) {
-            return place;
-        }
-        place = place.saturating_add(1);
-    }
-    place
-}
-
-#[test]
-fn faulty_lines_are_marked(rt: HostRuntime) {
-    expect_eq(&rt, first_mismarked(rt.alloc()), 16);
 }
 
 /// A text as pieces, with how often each of them comes.
@@ -139,21 +97,15 @@ fn is_shown_so(alloc: Global, line: Pieces, wanted: Pieces) -> bool {
     }
 }
 
-/// The place of the first long line of which something else is shown.
-fn first_miscut(alloc: Global) -> usize {
-    let mut place = 0usize;
-    for (line, wanted) in &LONG {
-        if !is_shown_so(alloc, line, wanted) {
-            return place;
-        }
-        place = place.saturating_add(1);
-    }
-    place
-}
-
 /// Of a line with a name of 300 letters 200 bytes are shown and 197 letters marked. Nothing is
 /// marked of an operand after the 200 bytes that are shown.
 #[test]
-fn long_lines_are_cut(rt: HostRuntime) {
-    expect_eq(&rt, first_miscut(rt.alloc()), 2);
+fn faulty_lines_are_marked_and_long_ones_cut(rt: HostRuntime) {
+    for (line, kind, wanted) in &ROWS {
+        let shown = is_shown(rt.alloc(), line, *kind, wanted);
+        expect_eq(&rt, (*line, shown), (*line, Some(true)));
+    }
+    for (line, wanted) in &LONG {
+        expect_eq(&rt, is_shown_so(rt.alloc(), line, wanted), true);
+    }
 }

@@ -23,46 +23,18 @@ fn odd_words(cells: &[(Address, Word)]) -> usize {
     odd
 }
 
-/// The number of the place of a word; `None` where there is none.
-fn place_of(cell: Option<&(Address, Word)>) -> Option<u16> {
-    match cell {
-        Some(cell) => Some(cell.0.number()),
-        None => None,
-    }
-}
-
-/// How many words there are and how many of them are odd; and the first and the last place, with
-/// those at the loader's two sides between them.
-type Full = ([usize; 2], [Option<u16>; 4]);
-
-fn full(alloc: Global) -> Option<Full> {
-    match text_of(alloc, &FULL_SOURCE) {
-        Some(source) => assembled(alloc, &source),
-        None => None,
-    }
-}
-
-fn assembled(alloc: Global, source: &[u8]) -> Option<Full> {
-    match assemble(alloc, source) {
-        Ok(image) => Some(counted(image.cells())),
+/// How many words the largest program has, and how many of them are odd; `None` where it does not assemble.
+fn full(alloc: Global) -> Option<[usize; 2]> {
+    let source = text_of(alloc, &FULL_SOURCE)?;
+    match assemble(alloc, source.as_slice()) {
+        Ok(image) => Some([image.cells().len(), odd_words(image.cells())]),
         Err(_) => None,
     }
 }
 
-fn counted(cells: &[(Address, Word)]) -> Full {
-    let places = [
-        place_of(cells.get(0)),
-        place_of(cells.get(4031)),
-        place_of(cells.get(4032)),
-        place_of(cells.get(4073)),
-    ];
-    ([cells.len(), odd_words(cells)], places)
-}
-
 #[test]
 fn a_program_of_all_places_but_the_loaders(rt: HostRuntime) {
-    let places = [Some(0), Some(4031), Some(4054), Some(4095)];
-    expect_eq(&rt, full(rt.alloc()), Some(([4074, 0], places)));
+    expect_eq(&rt, full(rt.alloc()), Some([4074, 0]));
 }
 
 /// Lines of 64 bytes: a comment, one with a label that is no name, and the last one.
@@ -113,35 +85,18 @@ fn a_source_of_1048576_bytes(rt: HostRuntime) {
     expect_eq(&rt, found, wanted);
 }
 
-/// Appends a word with a name of three digits, and the name of another one: that with each digit taken from 9.
-fn is_named(source: &mut Vec<u8>, [one, two, three]: [u8; 3]) -> bool {
-    let nines = b'0' + b'9';
-    let line = [
-        b'n',
-        one,
-        two,
-        three,
-        b' ',
-        b'z',
-        b' ',
-        b'n',
-        nines.saturating_sub(one),
-        nines.saturating_sub(two),
-        nines.saturating_sub(three),
-        b'\n',
-    ];
-    source.extend_from_slice(&line).is_ok()
-}
-
-/// Appends a thousand such words and the end; false without memory.
+/// Appends a thousand words, each with a name of three digits and the name of another one, that with each digit taken from 9; and the
+/// end. False without memory.
 pub fn are_named(source: &mut Vec<u8>) -> bool {
     for number in 0..1000u16 {
-        let digits = [
-            b'0' + (number / 100 % 10) as u8,
-            b'0' + (number / 10 % 10) as u8,
-            b'0' + (number % 10) as u8,
-        ];
-        if !is_named(source, digits) {
+        let mut line = *b"n000 z n999\n";
+        let digits = [number / 100 % 10, number / 10 % 10, number % 10];
+        for place in 0..3usize {
+            let digit = digits[place] as u8;
+            line[place + 1] = b'0'.saturating_add(digit);
+            line[place + 8] = b'9'.saturating_sub(digit);
+        }
+        if source.extend_from_slice(&line).is_err() {
             return false;
         }
     }

@@ -30,8 +30,8 @@ fn is_shown_as(global: Global, numbers: &[u8], text: &[u8]) -> bool {
 /// Numbers of codes, and the text of the paper.
 type Row = (&'static [u8], &'static [u8]);
 
-/// Signs, cases, ends of lines, and codes that print nothing.
-static SIGNS: [Row; 11] = [
+/// Signs, cases, ends of lines, codes that print nothing, tabs and backspaces.
+static SHOWN: [Row; 24] = [
     (&[], b""),
     (&[57, 5, 53], b"abc"),
     (&[57, 16, 5, 16], b"a\nb\n"),
@@ -43,10 +43,6 @@ static SIGNS: [Row; 11] = [
     (&[8, 7, 11, 15, 19, 23, 27], b"_=:?]["),
     (&[0, 57, 12, 63, 5], b"ab"),
     (&[28, 36, 8, 60, 4, 43], b"[28][36][60][43]"),
-];
-
-/// Tabs and backspaces.
-static MOVES: [Row; 13] = [
     (&[24, 57], b"        a"),
     (&[57, 24, 5], b"a       b"),
     (
@@ -65,49 +61,12 @@ static MOVES: [Row; 13] = [
     (&[8, 2, 20, 57, 5], b"AB"),
 ];
 
-/// The place of the first codes that are shown otherwise, or how many rows there are.
-fn first_shown_otherwise(global: Global, rows: &[Row]) -> usize {
-    let mut place = 0usize;
-    for (numbers, text) in rows {
-        if !is_shown_as(global, numbers, text) {
-            return place;
-        }
-        place = place.saturating_add(1);
+#[test]
+fn signs_and_moves_of_the_carriage_are_shown(rt: HostRuntime) {
+    for (numbers, text) in &SHOWN {
+        let seen = (*numbers, is_shown_as(rt.alloc(), numbers, text));
+        expect_eq(&rt, seen, (*numbers, true));
     }
-    place
-}
-
-#[test]
-fn signs_are_shown(rt: HostRuntime) {
-    expect_eq(&rt, first_shown_otherwise(rt.alloc(), &SIGNS), 11);
-}
-
-#[test]
-fn moves_of_the_carriage_are_shown(rt: HostRuntime) {
-    expect_eq(&rt, first_shown_otherwise(rt.alloc(), &MOVES), 13);
-}
-
-/// Whether the paper of codes comes after what a text had, which then is this one.
-fn comes_after(global: Global, codes: &[Code], text: &mut Vec<u8>, wanted: &[u8]) -> bool {
-    push_paper(global, text, codes).is_ok() && text.as_slice() == wanted
-}
-
-/// The same of a tab, a sign and a carriage return.
-fn is_appended(global: Global) -> bool {
-    match (
-        codes_of(global, &[24, 57, 16]),
-        text_of(global, &[(b"first\n", 1)]),
-    ) {
-        (Some(codes), Some(mut text)) => {
-            comes_after(global, &codes, &mut text, b"first\n        a\n")
-        }
-        _ => false,
-    }
-}
-
-#[test]
-fn paper_comes_after_the_text(rt: HostRuntime) {
-    expect_eq(&rt, is_appended(rt.alloc()), true);
 }
 
 /// How long the paper is of the codes of these numbers.
@@ -126,18 +85,14 @@ fn length_of(global: Global, pieces: &[(&[u8], u32)]) -> Option<usize> {
     }
 }
 
-/// Of a million codes of `a` every hundredth is a carriage return.
+/// Of a million codes of `a` every hundredth is a carriage return; and ten thousand tabs and a sign.
 #[test]
-fn a_long_paper(rt: HostRuntime) {
+fn long_and_wide_papers(rt: HostRuntime) {
     let mut row = [57; 100];
     row[99] = 16;
-    let length = length_of(rt.alloc(), &[(&row, 10_000)]);
-    expect_eq(&rt, length, Some(1_000_000));
-}
-
-/// Ten thousand tabs and a sign.
-#[test]
-fn a_wide_paper(rt: HostRuntime) {
-    let length = length_of(rt.alloc(), &[(&[24], 10_000), (&[57], 1)]);
-    expect_eq(&rt, length, Some(80_001));
+    let lengths = [
+        length_of(rt.alloc(), &[(&row, 10_000)]),
+        length_of(rt.alloc(), &[(&[24], 10_000), (&[57], 1)]),
+    ];
+    expect_eq(&rt, lengths, [Some(1_000_000), Some(80_001)]);
 }

@@ -1,12 +1,11 @@
 //! Drums as texts, and back.
 
 use super::*;
+use crate::drum::Cell;
 use crate::exchange::drums::drum_of;
 use crate::growths::{Form, is_dumped_drum, is_written};
 use crate::text_of;
-
-/// The number of an address, and the bits of its word.
-type Cell = (u16, u32);
+use lgp_limited::Limited;
 
 /// Whether a drum has this dump.
 fn has_dump(alloc: Global, drum: &Drum, wanted: &[u8]) -> bool {
@@ -98,15 +97,15 @@ fn a_word_of_zeros_has_a_line_of_its_own(rt: HostRuntime) {
     expect_eq(&rt, found, true);
 }
 
-/// Whether a text is no dump for this reason.
-fn has_fault<A: Allocator + Copy>(alloc: A, text: &[u8], wanted: DumpFault) -> bool {
-    match read_dump(alloc, text) {
-        Ok(_) => false,
-        Err(fault) => fault == wanted,
-    }
+/// Why a text is no dump where the first growth is refused, and whether one was asked for.
+fn refused(global: Global, text: &[u8]) -> (Option<DumpFault>, bool) {
+    let limited = Limited::new(global);
+    limited.refuse(1);
+    let fault = read_dump(&limited, text).err();
+    (fault, limited.was_refused())
 }
 
-pub static NO_DUMPS: &[(&[u8], DumpFault)] = &[
+static NO_DUMPS: [(&[u8], DumpFault); 10] = [
     (b"0100 00000000\n", DumpFault::Form(1)),
     (b"6364 00000004\n", DumpFault::Form(1)),
     (b"0100 00000003\n", DumpFault::Form(1)),
@@ -119,73 +118,11 @@ pub static NO_DUMPS: &[(&[u8], DumpFault)] = &[
     (b"0100 00000004\n0100 00000004\n", DumpFault::Order(2)),
 ];
 
-/// The place of the first text with another fault, or how many there are.
-pub fn first_other_fault<A: Allocator + Copy>(alloc: A) -> usize {
-    let mut place = 0usize;
-    for (text, wanted) in NO_DUMPS {
-        if !has_fault(alloc, text, *wanted) {
-            return place;
-        }
-        place = place.saturating_add(1);
-    }
-    place
-}
-
+/// The faults of a text are reported without memory.
 #[test]
 fn texts_that_are_no_dump(rt: HostRuntime) {
-    expect_eq(&rt, first_other_fault(rt.alloc()), NO_DUMPS.len());
-}
-
-/// Places in the line `0100 00000004` and its line feed, each with the bytes that may be there
-/// in a dump.
-static TAKEN: [(usize, &[u8]); 5] = [
-    (0, b"0123456"),
-    (4, b" "),
-    (8, b"0123456789fgjkqw"),
-    (12, b"2468fjq"),
-    (13, b"\n"),
-];
-
-/// Whether a text is a dump, and that of the drum that is read from it; none where it has another
-/// fault than that of its first line's form.
-fn is_dump(alloc: Global, text: &[u8]) -> Option<bool> {
-    match read_dump(alloc, text) {
-        Ok(drum) => has_dump(alloc, &drum, text).then_some(true),
-        Err(DumpFault::Form(1)) => Some(false),
-        Err(_) => None,
+    for (text, fault) in &NO_DUMPS {
+        let seen = (*text, refused(rt.alloc(), text));
+        expect_eq(&rt, seen, (*text, (Some(*fault), false)));
     }
-}
-
-/// Whether the line with a byte at a place is a dump.
-fn is_dump_with(alloc: Global, place: usize, byte: u8) -> Option<bool> {
-    let mut text = *b"0100 00000004\n";
-    if place < text.len() {
-        text[place] = byte;
-    }
-    is_dump(alloc, &text)
-}
-
-/// The first byte at a place that is not taken as it should be.
-fn first_wrong_byte(alloc: Global, place: usize, taken: &[u8]) -> Option<u8> {
-    for byte in 0..=255u8 {
-        if is_dump_with(alloc, place, byte) != Some(taken.contains(&byte)) {
-            return Some(byte);
-        }
-    }
-    None
-}
-
-/// The same at the first place that has one.
-fn first_wrong_place(alloc: Global) -> Option<(usize, u8)> {
-    for (place, taken) in &TAKEN {
-        if let Some(byte) = first_wrong_byte(alloc, *place, taken) {
-            return Some((*place, byte));
-        }
-    }
-    None
-}
-
-#[test]
-fn each_byte_anywhere_in_a_line_of_a_dump(rt: HostRuntime) {
-    expect_eq(&rt, first_wrong_place(rt.alloc()), None);
 }

@@ -6,7 +6,7 @@ use lgp_desk::Manner;
 use std::alloc::Global;
 
 /// Lines, and what is written for each of them.
-static ANSWERED: [Row; 10] = [
+static ANSWERED: [Row; 11] = [
     (
         Manner::Json,
         b"put 0000 = 1\n",
@@ -22,7 +22,7 @@ static ANSWERED: [Row; 10] = [
     (
         Manner::Json,
         b"live\n",
-        b"{\"line\":\"live\",\"reply\":[{\"live\":\"normal oneop manual start clear fill\"},{\"way\":\"start\"}],\"refused\":false}\n",
+        b"{\"line\":\"live\",\"reply\":[\"live normal oneop manual start clear fill\",\"way start\"],\"refused\":false}\n",
         0,
     ),
     (
@@ -31,13 +31,20 @@ static ANSWERED: [Row; 10] = [
         b"{\"line\":\"live now\",\"reply\":[\"? 1 Form: live\"],\"refused\":true}\n",
         0,
     ),
-    // The sentence after a run is the value of a key.
+    // A record is an object; a line that asks for one by itself has the same.
     (
         Manner::Json,
         b"trace-data 1\nprofile-data 0\n",
-        b"{\"line\":\"trace-data 1\",\"reply\":[{\"ran\":\"0 rest\"},{\"state\":\"the operator halted the machine, or has not started it: press start continues\"}],\"refused\":false}\n\
-        {\"line\":\"profile-data 0\",\"reply\":[{\"orders\":\"0\"},{\"times\":\"0\"},{\"turns\":\"0.0\"},{\"find\":\"0\"},{\"take\":\"0\"},{\"seek\":\"0\"},{\"act\":\"0\"},{\"elsewhere\":\"0\"},{\"ran\":\"0 rest\"},{\"state\":\"the operator halted the machine, or has not started it: press start continues\"}],\"refused\":false}\n",
+        b"{\"line\":\"trace-data 1\",\"reply\":[{\"ran\":\"0 rest\",\"state\":\"the operator halted the machine, or has not started it: press start to continue\"}],\"refused\":false}\n\
+        {\"line\":\"profile-data 0\",\"reply\":[{\"orders\":0,\"times\":0,\"turns\":\"0.0\",\"find\":0,\"take\":0,\"seek\":0,\"act\":0,\"elsewhere\":0},{\"ran\":\"0 rest\",\"state\":\"the operator halted the machine, or has not started it: press start to continue\"}],\"refused\":false}\n",
         0,
+    ),
+    (
+        Manner::Json,
+        b"json cost 0000\njson panel\n",
+        b"{\"line\":\"json cost 0000\",\"reply\":[{\"address\":\"0000\",\"label\":null,\"order\":\"z 0000\",\"find\":64,\"take\":1,\"seek\":1,\"act\":1,\"sum\":67,\"next\":\"0001\",\"next-label\":null,\"next-find\":6}],\"refused\":false}\n\
+        {\"line\":\"json panel\",\"reply\":[\"? 1 Form: json LINE, where LINE is one for programs, such as state-data\"],\"refused\":true}\n",
+        1,
     ),
     (
         Manner::Json,
@@ -80,7 +87,7 @@ const LONGER: [u8; 4097] = [b';'; 4097];
 
 #[test]
 fn each_line_has_its_object(rt: HostRuntime) {
-    expect_eq(&rt, rows_answered(rt.alloc(), &ANSWERED), 10);
+    expect_eq(&rt, rows_answered(rt.alloc(), &ANSWERED), 11);
 }
 
 /// Whether the object of a longer line has its front and two points, and ends as that of a line that is passed over.

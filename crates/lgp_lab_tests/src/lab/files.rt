@@ -112,10 +112,6 @@ pub fn run_part<A: Allocator + Copy, R: Read + Drop, W: Write + Drop>(
 pub const FIRST_PART: &[u8] =
     b"file first run\nok\nok\nok\nok\nok\nlive\norders 4 halted stop\ncounter 0004 accumulator 00000010 register 00000000 status halted stop mode normal switches uuuuuu reader off tape 0 clock 94\n0052 00000010\n";
 
-/// What is written for that and another one after it.
-const TWO_PARTS: &[u8] =
-    b"file first run\nok\nok\nok\nok\nok\nlive\norders 4 halted stop\ncounter 0004 accumulator 00000010 register 00000000 status halted stop mode normal switches uuuuuu reader off tape 0 clock 94\n0052 00000010\nfile other\n? 1 Form\n";
-
 /// Whether the first of two scripts has no fault and the other one has one, and whether both are answered so.
 fn two_parts(alloc: Global) -> (bool, bool, bool) {
     let mut written = Vec::new(alloc);
@@ -125,7 +121,7 @@ fn two_parts(alloc: Global) -> (bool, bool, bool) {
     (
         is_done(first, 0),
         is_done(other, 1),
-        written.as_slice() == TWO_PARTS,
+        written.as_slice().strip_prefix(FIRST_PART) == Some(b"file other\n? 1 Form\n".as_slice()),
     )
 }
 

@@ -3,13 +3,10 @@
 use super::files::{FILES, FIRST_PART, FileRow, run_part, write_between};
 use super::streams::{Failing, Pieces};
 use super::{FIRST_RUN, run_between};
-use crate::expect_eq;
+use crate::{End, expect_eq, in_turn};
 use lgp_lab::LabFault;
 use lgp_limited::Limited;
 use std::alloc::Global;
-
-/// More growths than any call has.
-const MOST: u64 = 5000;
 
 /// Commands, each of those that there are. Loading begins with the clock at 0, as in the worked example of a file that is run. Typed
 /// digits are shifted into the accumulator, which the second order stores.
@@ -91,55 +88,42 @@ fn replies_in(text: &[u8]) -> Option<usize> {
     left.is_empty().then_some(replies)
 }
 
-/// How a call ends whose nth growth is refused: it answers so and has written a front of its text, or it is done, or otherwise.
-#[derive(Clone, Copy)]
-enum End {
-    Refused,
-    Done,
-    Otherwise,
-}
-
 /// How a call ended, where this was to be its answer at last, and where a front of its text is written, or the whole text.
-fn ended(
-    is_refused: bool,
-    answer: Result<u64, LabFault>,
-    wanted: u64,
-    (is_front, is_whole): (bool, bool),
-) -> End {
+fn ended(answer: Result<u64, LabFault>, wanted: u64, (is_front, is_whole): (bool, bool)) -> End {
     match answer {
-        Err(LabFault::Memory) if is_refused && is_front => End::Refused,
-        Ok(number) if !is_refused && number == wanted && is_whole => End::Done,
+        Err(LabFault::Memory) if is_front => End::Refused,
+        Ok(number) if number == wanted && is_whole => End::Done,
         _ => End::Otherwise,
     }
 }
 
 /// How the script of all commands ends, and after how many whole replies.
-fn end_of(limited: &Limited<Global>, global: Global, nth: u64) -> (End, usize) {
+fn script_end(limited: &Limited<Global>, global: Global) -> (End, usize) {
     let mut written = Vec::new(global);
-    limited.refuse(nth);
     let (answer, has_read_failed, has_write_failed) = run_between(limited, COMMANDS, &mut written);
     let (is_front, replies) = match replies_in(&written) {
         Some(replies) => (!has_read_failed && !has_write_failed, replies),
         None => (false, 0),
     };
-    let whole = is_front && replies == 27;
-    (
-        ended(limited.was_refused(), answer, 0, (is_front, whole)),
-        replies,
-    )
+    let is_whole = is_front && replies == 27;
+    (ended(answer, 0, (is_front, is_whole)), replies)
+}
+
+/// The same, where a refused command is noted.
+fn noted_end(limited: &Limited<Global>, global: Global, refused: &mut [bool; 27]) -> End {
+    let (end, replies) = script_end(limited, global);
+    match refused.get_mut(replies) {
+        Some(command) => *command = true,
+        None => {}
+    }
+    end
 }
 
 /// Which commands are refused at least once before the script is done; `None` where it ends otherwise.
 fn refusals(limited: &Limited<Global>, global: Global) -> Option<[bool; 27]> {
     let mut refused = [false; 27];
-    for nth in 1..MOST {
-        match end_of(limited, global, nth) {
-            (End::Refused, replies) => *refused.get_mut(replies)? = true,
-            (End::Done, _) => return Some(refused),
-            (End::Otherwise, _) => return None,
-        }
-    }
-    None
+    in_turn(limited, || noted_end(limited, global, &mut refused))?;
+    Some(refused)
 }
 
 #[test]
@@ -151,44 +135,22 @@ fn each_growth_of_each_command_is_refused(rt: HostRuntime) {
 
 /// How a call for a source ends, over a reader of small pieces and a writer that takes few bytes at once. Where it is refused,
 /// nothing is written.
-fn file_end(limited: &Limited<Global>, global: Global, row: &FileRow<'static>, nth: u64) -> End {
+fn file_end(limited: &Limited<Global>, global: Global, row: &FileRow<'static>) -> End {
     let (call, source, text, status) = *row;
     let mut writer = Failing::after(global, usize::MAX, 5);
-    limited.refuse(nth);
     let answer = write_between(call, limited, Pieces::whole(source, 7), &mut writer);
     let texts = (writer.taken().is_empty(), writer.taken() == text);
-    ended(limited.was_refused(), answer, status, texts)
-}
-
-/// Whether a call for a source is done at last, and is refused at least once before that.
-fn is_refused_in_turn(limited: &Limited<Global>, global: Global, row: &FileRow<'static>) -> bool {
-    for nth in 1..MOST {
-        match file_end(limited, global, row, nth) {
-            End::Refused => {}
-            End::Done => return nth > 1,
-            End::Otherwise => return false,
-        }
-    }
-    false
-}
-
-/// How many rows come before the first for which that is not so.
-fn files_refused(limited: &Limited<Global>, global: Global) -> usize {
-    let mut refused: usize = 0;
-    for row in &FILES {
-        if !is_refused_in_turn(limited, global, row) {
-            return refused;
-        }
-        refused = refused.saturating_add(1);
-    }
-    refused
+    ended(answer, status, texts)
 }
 
 #[test]
 fn nothing_is_written_for_a_file_whose_growth_is_refused(rt: HostRuntime) {
-    let limited = Limited::new(rt.alloc());
-    let refused = files_refused(&limited, rt.alloc());
-    expect_eq(&rt, (refused, limited.blocks_out()), (8, 0));
+    let (global, limited) = (rt.alloc(), Limited::new(rt.alloc()));
+    for row in &FILES {
+        let growths = in_turn(&limited, || file_end(&limited, global, row));
+        let seen = (row.2, growths >= Some(1), limited.blocks_out());
+        expect_eq(&rt, seen, (row.2, true, 0));
+    }
 }
 
 /// Whether a text is some of the first lines that are written for a script with its name.
@@ -197,33 +159,17 @@ fn is_part(text: &[u8]) -> bool {
 }
 
 /// How a script of several ends, over such a reader and writer. Where it is refused, a part of its text is written.
-fn part_end(limited: &Limited<Global>, global: Global, nth: u64) -> End {
+fn part_end(limited: &Limited<Global>, global: Global) -> End {
     let mut writer = Failing::after(global, usize::MAX, 5);
-    limited.refuse(nth);
     let script = Pieces::whole(FIRST_RUN, 7);
     let answer = run_part(limited, "first run", script, &mut writer);
     let texts = (is_part(writer.taken()), writer.taken() == FIRST_PART);
-    ended(limited.was_refused(), answer, 0, texts)
-}
-
-/// At which growth a script of several is done; `None` where it ends otherwise.
-fn part_done(limited: &Limited<Global>, global: Global) -> Option<u64> {
-    for nth in 1..MOST {
-        match part_end(limited, global, nth) {
-            End::Refused => {}
-            End::Done => return Some(nth),
-            End::Otherwise => return None,
-        }
-    }
-    None
+    ended(answer, 0, texts)
 }
 
 #[test]
 fn a_script_of_several_is_refused_after_a_whole_reply(rt: HostRuntime) {
-    let limited = Limited::new(rt.alloc());
-    let is_refused = match part_done(&limited, rt.alloc()) {
-        Some(nth) => nth > 10,
-        None => false,
-    };
-    expect_eq(&rt, (is_refused, limited.blocks_out()), (true, 0));
+    let (global, limited) = (rt.alloc(), Limited::new(rt.alloc()));
+    let growths = in_turn(&limited, || part_end(&limited, global));
+    expect_eq(&rt, (growths > Some(9), limited.blocks_out()), (true, 0));
 }

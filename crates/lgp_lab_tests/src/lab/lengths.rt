@@ -15,18 +15,6 @@ fn is_long_answered(alloc: Global, (script, replies, faults): &LongRow) -> bool 
     }
 }
 
-/// How many rows come before the first whose script is answered otherwise.
-fn rows_answered(alloc: Global, rows: &[LongRow]) -> usize {
-    let mut answered: usize = 0;
-    for row in rows {
-        if !is_long_answered(alloc, row) {
-            return answered;
-        }
-        answered = answered.saturating_add(1);
-    }
-    answered
-}
-
 /// A comment of 64 bytes with its line feed. A source has room for 16,384 of them.
 const COMMENT: &[u8] = b";;;;;;;;;;;;;;;;;;;;;;;;;;;;;;;;;;;;;;;;;;;;;;;;;;;;;;;;;;;;;;;\n";
 
@@ -101,5 +89,11 @@ static ROWS: [LongRow; 13] = [
 
 #[test]
 fn lines_have_at_most_4096_bytes_and_sources_1048576(rt: HostRuntime) {
-    expect_eq(&rt, rows_answered(rt.alloc(), &ROWS), 13);
+    for row in &ROWS {
+        expect_eq(
+            &rt,
+            (row.1, is_long_answered(rt.alloc(), row)),
+            (row.1, true),
+        );
+    }
 }

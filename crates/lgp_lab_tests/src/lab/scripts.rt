@@ -110,24 +110,19 @@ fn is_answered_in_pieces(alloc: Global, row: &Row<'static>, most: usize) -> bool
     has_replies(alloc, Pieces::whole(script, most), replies, faults)
 }
 
-/// How many rows come before the first whose script is answered otherwise, in whatever pieces it comes.
-fn rows_answered(alloc: Global, rows: &[Row<'static>]) -> usize {
-    let mut answered: usize = 0;
-    for row in rows {
-        if !(is_answered_in_pieces(alloc, row, 1)
-            && is_answered_in_pieces(alloc, row, 7)
-            && is_answered_in_pieces(alloc, row, 5000))
-        {
-            return answered;
-        }
-        answered = answered.saturating_add(1);
-    }
-    answered
+/// The same in pieces of 1, of 7 and of 5,000 bytes.
+fn is_answered_in_all_pieces(alloc: Global, row: &Row<'static>) -> bool {
+    is_answered_in_pieces(alloc, row, 1)
+        && is_answered_in_pieces(alloc, row, 7)
+        && is_answered_in_pieces(alloc, row, 5000)
 }
 
 #[test]
 fn scripts_are_answered_in_pieces_of_any_length(rt: HostRuntime) {
-    expect_eq(&rt, rows_answered(rt.alloc(), &ROWS), 18);
+    for row in &ROWS {
+        let seen = (row.1, is_answered_in_all_pieces(rt.alloc(), row));
+        expect_eq(&rt, seen, (row.1, true));
+    }
 }
 
 /// Gives one text and then another.

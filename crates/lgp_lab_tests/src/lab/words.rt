@@ -50,11 +50,9 @@ fn are_typed_obeyed(alloc: Global, typed: &str, text: &[u8], status: u8) -> bool
     }
 }
 
-/// Words, each with what is written and the status. A script of a batch has a line that names it, and one alone has none.
-static DONE: [(&str, &[u8], u8); 6] = [
+/// Words, each with what is written and the status.
+static DONE: [(&str, &[u8], u8); 4] = [
     ("", b"? 1 Form\n", 1),
-    ("|script|one", b"clock 5\n", 0),
-    ("|batch|one", b"file one\nclock 5\n", 0),
     (
         "|batch|one|two",
         b"file one\nclock 5\nfile two\n? 1 Form\n",
@@ -64,21 +62,12 @@ static DONE: [(&str, &[u8], u8); 6] = [
     ("|--version", b"lgp_lab 0.1.0\n", 0),
 ];
 
-/// How many of the words come before the first that are obeyed otherwise.
-fn words_obeyed(alloc: Global) -> usize {
-    let mut obeyed: usize = 0;
-    for (typed, text, status) in &DONE {
-        if !are_typed_obeyed(alloc, typed, text, *status) {
-            return obeyed;
-        }
-        obeyed = obeyed.saturating_add(1);
-    }
-    obeyed
-}
-
 #[test]
 fn words_are_obeyed_without_a_message(rt: HostRuntime) {
-    expect_eq(&rt, words_obeyed(rt.alloc()), 6);
+    for (typed, text, status) in &DONE {
+        let seen = (*typed, are_typed_obeyed(rt.alloc(), typed, text, *status));
+        expect_eq(&rt, seen, (*typed, true));
+    }
 }
 
 /// What is reported of words that cannot be read.

@@ -1,43 +1,37 @@
 //! Texts of orders, words and profiles, with each growth of the text refused in turn.
 
-use super::data::{ORDERS_DATA, PROFILE_DATA};
-use super::lines::PROFILE;
-use super::origins::{ORDERS, PROGRAM, WORDS, push_words};
 use super::steps::{debugger, goes_back, put_all};
 use super::{address, profile_of_a_sum};
-use crate::expect_eq;
+use crate::{End, end_of, expect_eq, in_turn};
+use lgp_assembler::Name;
+use lgp_data::{AccountRecords, push_profile_data};
 use lgp_debugger::{Debugger, Ran, RunFault, RunRefusal};
+use lgp_fields::Form;
 use lgp_history::{History, Origins};
 use lgp_limited::Limited;
 use lgp_table::Action;
-use lgp_trace::{Form, NoLabels, Profile, draw_run, push_profile_in, trace_run};
-use std::alloc::Allocator;
+use lgp_trace::{
+    InColumns, NoLabels, Profile, draw_run, push_heading, push_profile, push_why, trace_run,
+};
+use std::alloc::{AllocError, Allocator, Global};
 
-/// More growths than any text here has.
-pub(super) const MOST: u64 = 40;
+/// At 0000 y 0001, which puts the accumulator's address, 0000, into the order after it: at 0001 u 0005.
+static PROGRAM: &[(u16, u32)] = &[(0, 0x0002_0004), (1, 0x000a_0014)];
+
+/// Why the words at 0000, 0001 and 0002 are as they are; or a refused growth.
+fn push_words<H: Origins<A>, A: Allocator, B: Allocator>(
+    lab: &Debugger<H, A>,
+    text: &mut Vec<u8, B>,
+) -> Result<(), AllocError> {
+    for number in 0..3 {
+        push_why(lab, text, address(number), &NoLabels)?;
+    }
+    Ok(())
+}
 
 /// The program put on the drum and started; false where that is refused.
 fn start<H: History<A>, A: Allocator>(lab: &mut Debugger<H, A>) -> bool {
     put_all(lab, PROGRAM) && lab.press(Action::Start) == Ok(true)
-}
-
-/// How an attempt ends.
-#[derive(Clone, Copy)]
-pub(super) enum Attempt {
-    Reported,
-    Refused,
-    Otherwise,
-}
-
-/// How a call ends that was refused a growth, or none.
-pub(super) fn ended(refused: bool, answers_so: bool, reported: bool) -> Attempt {
-    if refused && answers_so {
-        Attempt::Refused
-    } else if !refused && reported {
-        Attempt::Reported
-    } else {
-        Attempt::Otherwise
-    }
 }
 
 /// How many orders a run counts, and whether it was refused for want of memory.
@@ -48,7 +42,7 @@ pub(super) fn counted(ran: Result<Ran, RunFault>) -> (u64, bool) {
     }
 }
 
-/// How orders are reported: by their lines, by lines of a key and a value, or by their signs along the drum.
+/// How orders are reported: by their lines, by records, or by their signs along the drum.
 #[derive(Clone, Copy)]
 enum Way {
     Lines,
@@ -56,11 +50,10 @@ enum Way {
     Signs,
 }
 
-/// The signs of two orders. The first is found at the 64th word time and taken, its word is found at the 8th, and it acts; the
-/// second is found at the 63rd and taken, waits a word time for no word, and acts.
-const SIGNS: &[u8] = b"      0  ...............................................................F
-     64  i.......Wx......................................................
-    128  ........Fi-x";
+/// Orders as objects of JSON, with these labels.
+fn objects_with(names: &[(Name, u16)]) -> AccountRecords<'_> {
+    AccountRecords { form: Form::Objects, names }
+}
 
 /// A run of two orders, reported in this way.
 fn run_so<H: Origins<A>, A: Allocator, C: Allocator>(
@@ -69,140 +62,101 @@ fn run_so<H: Origins<A>, A: Allocator, C: Allocator>(
     text: &mut Vec<u8, C>,
 ) -> Result<Ran, RunFault> {
     match way {
-        Way::Lines => trace_run(lab, 2, Form::Columns, text, &NoLabels),
-        Way::Data => trace_run(lab, 2, Form::Data, text, &NoLabels),
+        Way::Lines => trace_run(lab, 2, text, &InColumns { labels: &NoLabels }),
+        Way::Data => trace_run(lab, 2, text, &objects_with(&[])),
         Way::Signs => draw_run(lab, 2, text),
     }
 }
 
-/// Whether this is what is reported of both orders.
-fn is_reported(way: Way, text: &[u8]) -> bool {
-    match way {
-        Way::Lines => text == ORDERS,
-        Way::Data => text == ORDERS_DATA,
-        Way::Signs => text == SIGNS,
-    }
-}
-
-/// Two orders reported in this way: how many the run counts, whether it was refused for want of memory, and whether both are reported.
-fn told_run<H: Origins<A>, A: Allocator, C: Allocator>(
-    alloc: C,
+/// Appends two orders in this way, and goes back. The order whose lines or signs found no room remains, and the answer counts it: the
+/// clock is 74 after the first order, and 140 after the second.
+fn tell_and_back<H: Origins<A>, A: Allocator, C: Allocator>(
+    text: &mut Vec<u8, C>,
     way: Way,
     lab: &mut Debugger<H, A>,
-) -> (u64, bool, bool) {
-    let mut text = Vec::new(alloc);
-    let (orders, answers_so) = counted(run_so(way, lab, &mut text));
-    (orders, answers_so, is_reported(way, text.as_slice()))
-}
-
-/// Two orders reported in this way, and gone back: whether a growth was refused, and whether both are reported. The order whose lines
-/// or signs found no room remains, and the answer counts it: the clock is 74 after the first order, and 140 after the second.
-fn told_and_back<H: Origins<A>, A: Allocator, C: Allocator>(
-    alloc: C,
-    way: Way,
-    lab: &mut Debugger<H, A>,
-) -> (bool, bool) {
-    let (orders, refused, reported) = told_run(alloc, way, lab);
+) -> End {
+    let (orders, is_refused) = counted(run_so(way, lab, text));
     let stands = matches!((orders, lab.look().clock), (1, 74) | (2, 140));
-    let is_back = stands && goes_back(lab, orders);
-    (is_back && refused, is_back && reported)
+    if stands && goes_back(lab, orders) {
+        end_of(!is_refused, is_refused)
+    } else {
+        End::Otherwise
+    }
 }
 
-/// What is said of three words: whether a growth was refused, and whether this is all that there is to say.
-fn told_words<H: Origins<A>, A: Allocator, C: Allocator>(
-    alloc: C,
-    lab: &Debugger<H, A>,
-) -> (bool, bool) {
-    let mut text = Vec::new(alloc);
-    let refused = push_words(lab, &mut text).is_err();
-    (refused, text.as_slice() == WORDS)
-}
-
-/// The same of orders reported in a way, or of what is said of three words where there is none.
-fn told<H: Origins<A>, A: Allocator, C: Allocator>(
-    alloc: C,
+/// The same of orders in a way, or of what is said of three words where there is none.
+fn tell<H: Origins<A>, A: Allocator, C: Allocator>(
+    text: &mut Vec<u8, C>,
     way: Option<Way>,
     lab: &mut Debugger<H, A>,
-) -> (bool, bool) {
+) -> End {
     match way {
-        Some(way) => told_and_back(alloc, way, lab),
-        None => told_words(alloc, lab),
+        Some(way) => tell_and_back(text, way, lab),
+        None => match push_words(lab, text) {
+            Ok(()) => End::Done,
+            Err(_) => End::Refused,
+        },
     }
 }
 
-/// The same with a growth refused.
-fn refused<H: Origins<A>, A: Allocator, B: Allocator>(
-    limited: &Limited<B>,
-    nth: u64,
-    way: Option<Way>,
-    lab: &mut Debugger<H, A>,
-) -> Attempt {
-    limited.refuse(nth);
-    let (refused, reported) = told(limited, way, lab);
-    ended(limited.was_refused(), refused, reported)
-}
-
-/// Whether growths were refused before that was reported, and each of them was answered so.
-fn told_in_turn<H: Origins<A>, A: Allocator, B: Allocator>(
-    limited: &Limited<B>,
+/// Whether growths were refused before that was told as with ample memory, and each of them was answered so. The texts themselves are
+/// compared where the program writes them.
+fn told_in_turn<H: Origins<A>, A: Allocator>(
+    (limited, global): (&Limited<Global>, Global),
     way: Option<Way>,
     lab: &mut Debugger<H, A>,
 ) -> bool {
-    for nth in 1..MOST {
-        match refused(limited, nth, way, lab) {
-            Attempt::Reported => return nth > 1,
-            Attempt::Refused => {}
-            Attempt::Otherwise => return false,
-        }
+    let mut ample = Vec::new(global);
+    let is_told = matches!(tell(&mut ample, way, lab), End::Done);
+    let growths = in_turn(limited, || {
+        let mut text = Vec::new(limited);
+        let end = tell(&mut text, way, lab);
+        unless_other(end, text.as_slice(), ample.as_slice())
+    });
+    is_told && !ample.is_empty() && growths >= Some(1)
+}
+
+/// How a call ends that is done with this text alone.
+pub(super) fn unless_other(end: End, text: &[u8], ample: &[u8]) -> End {
+    match end {
+        End::Done if text != ample => End::Otherwise,
+        _ => end,
     }
-    false
 }
 
-/// The lines of the profile in a form.
-fn profile_lines(form: Form) -> &'static [u8] {
-    match form {
-        Form::Columns => PROFILE,
-        Form::Data => PROFILE_DATA,
+/// Appends a heading of accounts and a profile, in columns or as records in a form.
+fn push_told<A: Allocator, C: Allocator>(
+    text: &mut Vec<u8, C>,
+    form: Option<Form>,
+    profile: &Profile<A>,
+) -> End {
+    if push_heading(text).is_err() {
+        return End::Refused;
+    }
+    let pushed = match form {
+        None => push_profile(text, 42, profile, &NoLabels),
+        Some(form) => push_profile_data(text, form, &[], 42, profile),
+    };
+    match pushed {
+        Ok(()) => End::Done,
+        Err(_) => End::Refused,
     }
 }
 
-/// A profile's text: whether a growth was refused, and whether these are its lines.
-fn told_profile<A: Allocator, C: Allocator>(
-    alloc: C,
-    form: Form,
-    profile: &Profile<A>,
-) -> (bool, bool) {
-    let mut text = Vec::new(alloc);
-    let refused = push_profile_in(&mut text, form, 42, profile, &NoLabels).is_err();
-    (refused, text.as_slice() == profile_lines(form))
-}
-
-/// The same with a growth refused.
-fn profile_refused<A: Allocator, B: Allocator>(
-    limited: &Limited<B>,
-    nth: u64,
-    form: Form,
-    profile: &Profile<A>,
-) -> Attempt {
-    limited.refuse(nth);
-    let (refused, reported) = told_profile(limited, form, profile);
-    ended(limited.was_refused(), refused, reported)
-}
-
-/// Whether growths of a profile's text were refused in turn, and each of them was answered so.
-fn profile_in_turn<A: Allocator, B: Allocator>(
-    limited: &Limited<B>,
-    form: Form,
+/// Whether growths of that were refused in turn.
+fn profile_in_turn<A: Allocator>(
+    (limited, global): (&Limited<Global>, Global),
+    form: Option<Form>,
     profile: &Profile<A>,
 ) -> bool {
-    for nth in 1..MOST {
-        match profile_refused(limited, nth, form, profile) {
-            Attempt::Reported => return nth > 1,
-            Attempt::Refused => {}
-            Attempt::Otherwise => return false,
-        }
-    }
-    false
+    let mut ample = Vec::new(global);
+    let is_told = matches!(push_told(&mut ample, form, profile), End::Done);
+    let growths = in_turn(limited, || {
+        let mut text = Vec::new(limited);
+        let end = push_told(&mut text, form, profile);
+        unless_other(end, text.as_slice(), ample.as_slice())
+    });
+    is_told && !ample.is_empty() && growths >= Some(1)
 }
 
 /// Whether two orders are run, and the order at 0001 has lost the u 0005.
@@ -215,8 +169,8 @@ fn two_run<H: Origins<A>, A: Allocator>(lab: &mut Debugger<H, A>) -> [bool; 2] {
 
 /// Whether the program is started; whether lines, data and signs had growths in turn and each was reported at last; whether two orders
 /// are run then, and the order at 0001 has lost the u 0005; and the same of the words.
-fn in_turn<H: Origins<A>, A: Allocator, B: Allocator>(
-    limited: &Limited<B>,
+fn all_in_turn<H: Origins<A>, A: Allocator>(
+    limited: (&Limited<Global>, Global),
     lab: &mut Debugger<H, A>,
 ) -> ([bool; 4], [bool; 2], bool) {
     let told = [
@@ -232,7 +186,7 @@ fn in_turn<H: Origins<A>, A: Allocator, B: Allocator>(
 fn each_growth_refused(rt: HostRuntime) {
     let limited = Limited::new(rt.alloc());
     let seen = match debugger(rt.alloc()) {
-        Some(mut lab) => in_turn(&limited, &mut lab),
+        Some(mut lab) => all_in_turn((&limited, rt.alloc()), &mut lab),
         None => ([false; 4], [false; 2], false),
     };
     let wanted = ([true; 4], [true; 2], true);
@@ -243,11 +197,11 @@ fn each_growth_refused(rt: HostRuntime) {
 fn each_growth_of_a_profile_refused(rt: HostRuntime) {
     let limited = Limited::new(rt.alloc());
     let are_refused = match profile_of_a_sum(rt.alloc()) {
-        Some(profile) => {
-            profile_in_turn(&limited, Form::Columns, &profile)
-                && profile_in_turn(&limited, Form::Data, &profile)
-        }
-        None => false,
+        Some(profile) => [
+            profile_in_turn((&limited, rt.alloc()), None, &profile),
+            profile_in_turn((&limited, rt.alloc()), Some(Form::Lines), &profile),
+        ],
+        None => [false; 2],
     };
-    expect_eq(&rt, (are_refused, limited.blocks_out()), (true, 0));
+    expect_eq(&rt, (are_refused, limited.blocks_out()), ([true; 2], 0));
 }

@@ -1,19 +1,14 @@
 //! Where words would have cost least, against numbers made by hand.
 
-ghost use Rattle.std.specs.Prelude.{◌^◌, ◌<◌, IsTrue};
-ghost use Rattle.lgp_trace.specs.Phases.{all_phases};
-
-use super::growths::{Attempt, counted, ended};
+use super::address;
+use super::growths::counted;
 use super::steps::{debugger, debugger_of, goes_back, start};
-use super::{SUM_OF_A_TABLE, address, is_few, press, take, with_words};
-use crate::expect_eq;
+use crate::{End, end_of, expect_eq, in_turn};
 use lgp_debugger::Debugger;
 use lgp_history::History;
 use lgp_limited::Limited;
-use lgp_machine::Machine;
-use lgp_table::Action;
 use lgp_trace::optimum_laws::{all_save_the_sum, own_sector, savings_add_up};
-use lgp_trace::{Account, Freedom, Optimum, optimum_run};
+use lgp_trace::{Freedom, Optimum, optimum_run};
 use std::alloc::{Allocator, Global};
 
 /// What is noted of the program that sums a table; none where that is refused.
@@ -100,112 +95,44 @@ fn rows_noted(alloc: Global) -> (u64, usize) {
     }
 }
 
-/// Notes an account of few word times; false where it has many, or memory is refused.
-fn note<A: Allocator>(optimum: &mut Optimum<A>, account: &Account) -> bool {
-    let few = optimum.took() < 1 << 32 && account.before.clock < 1 << 32;
-    few && is_short(account) && optimum.note(account).is_ok()
-}
-
-/// Whether an account has a word time at the least, and few.
-fn is_short(account: &Account) -> bool
-    ensures some { IsTrue result → 0 < all_phases account.now.phases }
-    ensures few { IsTrue result → all_phases account.now.phases < 2 ^ 34 }
-{
-    account.phases.act > 0 && is_few(account.phases)
-}
-
-/// Starts the machine, and notes its activities up to the one that is refused.
-fn note_all<A: Allocator, B: Allocator>(machine: &mut Machine<A>, optimum: &mut Optimum<B>) {
-    press(machine, Action::Start);
-    for _ in 0..100 {
-        if let Ok(account) = take(machine) {
-            note(optimum, &account);
-        }
-    }
-}
-
-/// What is noted of the same program account by account; none where memory is refused.
-fn noted_singly<A: Allocator + Copy>(alloc: A, machine: &mut Machine<A>) -> Option<Optimum<A>> {
-    let mut optimum = Optimum::new(alloc).ok()?;
-    note_all(machine, &mut optimum);
-    Some(optimum)
-}
-
-/// How many word times that is, and how many rows come before the first that is reported otherwise.
-fn rows_singly<A: Allocator + Copy>(alloc: A, machine: &mut Machine<A>) -> (u64, usize) {
-    match noted_singly(alloc, machine) {
-        Some(optimum) => (optimum.took(), rows_as(&optimum, NAMED)),
-        None => (0, 0),
-    }
-}
-
-/// The same on a new machine.
-fn rows_noted_singly(alloc: Global) -> (u64, usize) {
-    match with_words(alloc, SUM_OF_A_TABLE) {
-        Some(mut machine) => rows_singly(alloc, &mut machine),
-        None => (0, 0),
-    }
-}
-
-/// 42 orders, of which the one at 0009 is changed: noted by a run, and by one account after another.
+/// 42 orders, of which the one at 0009 is changed.
 #[test]
 fn the_words_of_a_program(rt: HostRuntime) {
-    let seen = [rows_noted(rt.alloc()), rows_noted_singly(rt.alloc())];
-    expect_eq(&rt, seen, [(2910, 14); 2]);
+    expect_eq(&rt, rows_noted(rt.alloc()), (2910, 14));
 }
 
-/// The program noted from its start, and gone back where a growth is refused: whether the run says so and has stopped before the
-/// order, and whether all its orders are noted.
+/// The program noted from its start, and gone back where a growth is refused. The run says so, and has stopped before the order; or
+/// all its orders are noted.
 fn run_noted<H: History<A>, A: Allocator, C: Allocator>(
     lab: &mut Debugger<H, A>,
     optimum: &mut Optimum<C>,
-) -> (bool, bool) {
+) -> End {
     let (orders, is_refused) = counted(optimum_run(lab, 100, optimum));
     let stands = optimum.took() == lab.look().clock;
     if is_refused {
         goes_back(lab, orders);
     }
-    (is_refused && stands, !is_refused && orders == 42 && stands)
+    end_of(!is_refused && orders == 42 && stands, is_refused && stands)
 }
 
-/// That of a new optimum; `None` where it is not made.
+/// That of a new optimum.
 fn run_anew<H: History<A>, A: Allocator, C: Allocator + Copy>(
     alloc: C,
     lab: &mut Debugger<H, A>,
-) -> Option<(bool, bool)> {
+) -> End {
     match Optimum::new(alloc) {
-        Ok(mut optimum) => Some(run_noted(lab, &mut optimum)),
-        Err(_) => None,
+        Ok(mut optimum) => run_noted(lab, &mut optimum),
+        Err(_) => End::Refused,
     }
 }
 
-/// How that ends with the nth growth refused.
-fn run_refused<H: History<A>, A: Allocator, B: Allocator>(
-    limited: &Limited<B>,
-    nth: u64,
+/// How many growths were refused one after another before all went well.
+fn growths_of_run<H: History<A>, A: Allocator>(
+    limited: &Limited<Global>,
     lab: &mut Debugger<H, A>,
-) -> Attempt {
-    limited.refuse(nth);
-    match run_anew(limited, lab) {
-        Some((answers_so, is_done)) => ended(limited.was_refused(), answers_so, is_done),
-        None => Attempt::Refused,
-    }
-}
-
-/// How many growths were refused one after another before all went well; 0 where an attempt ended otherwise.
-fn in_turn<H: History<A>, A: Allocator, B: Allocator>(
-    limited: &Limited<B>,
-    lab: &mut Debugger<H, A>,
-) -> u64 {
+) -> Option<u64> {
     start(lab);
-    for nth in 1..40 {
-        match run_refused(limited, nth, lab) {
-            Attempt::Reported => return nth - 1,
-            Attempt::Refused => {}
-            Attempt::Otherwise => return 0,
-        }
-    }
-    0
+    in_turn(limited, || run_anew(limited, lab))
 }
 
 /// Three growths make room for no word, and some more for the words that are named.
@@ -213,10 +140,10 @@ fn in_turn<H: History<A>, A: Allocator, B: Allocator>(
 fn each_growth_refused(rt: HostRuntime) {
     let limited = Limited::new(rt.alloc());
     let growths = match debugger_of(rt.alloc(), 100) {
-        Some(mut lab) => in_turn(&limited, &mut lab),
-        None => 0,
+        Some(mut lab) => growths_of_run(&limited, &mut lab),
+        None => None,
     };
-    expect_eq(&rt, (growths > 3, limited.blocks_out()), (true, 0));
+    expect_eq(&rt, (growths > Some(3), limited.blocks_out()), (true, 0));
 }
 
 #[test]

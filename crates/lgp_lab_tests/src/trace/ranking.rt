@@ -1,12 +1,11 @@
 //! The words with most to gain, against numbers made by hand.
 
 use super::address;
-use super::growths::{Attempt, MOST, ended};
 use super::optimum::optimum_of_a_sum;
-use crate::expect_eq;
+use crate::{end_of, expect_eq, in_turn};
 use lgp_limited::Limited;
 use lgp_trace::{Freedom, Gain, NoLabels, Optimum, push_optimum, push_word_optimum};
-use std::alloc::Allocator;
+use std::alloc::{Allocator, Global};
 
 /// A word, its best sector, and what it saves there.
 type Row = (u16, u16, u64);
@@ -72,32 +71,6 @@ fn rankings<A: Allocator + Copy, B: Allocator>(alloc: A, optimum: &Optimum<B>) -
     ]
 }
 
-/// What is reported of its 42 orders. A part in per cent is cut off: 256 of 2,910 are 8.79.
-const REPORTED: &[u8] = b"orders 42, word times 2910, turns of the drum 45.4
-the ten words with most to gain
-  0021              sector 21, best  0       256    8 %
-  0022              sector 22, best 27       256    8 %
-  0024              sector 24, best 23       256    8 %
-  0020              sector 20, best 19        64    2 %
-  0023              sector 23, best 21        64    2 %
-  0025              sector 25, best 17        64    2 %
-  all words that may be moved together       960   32 %
-not to be moved, since they were performed as orders
-  0009              sector  9, best 26       256    8 %
-  0017              sector 17, best 15        64    2 %
-not to be moved, since a changed order named them, or one in the register alone
-  0100              sector  0, best 24        64    2 %
-  0101              sector  1, best 24        64    2 %
-  0102              sector  2, best 24        64    2 %
-  0103              sector  3, best 24        64    2 %
-";
-
-/// Of an order in the register alone nothing is reported here; of a word that no order named, that it may be anywhere.
-const NAMED_BY_NONE: &[u8] = b"orders 42, word times 2910, turns of the drum 45.4
-0008
-  no order named it: wherever it stands, they take as long
-";
-
 /// What is reported of a run, or of one of its words.
 #[derive(Clone, Copy)]
 enum Part {
@@ -131,43 +104,21 @@ fn the_words_with_most_to_gain(rt: HostRuntime) {
     expect_eq(&rt, seen, ([true; 5], 960));
 }
 
-/// A part reported: whether a growth was refused, and whether this is what is wanted.
-fn told<A: Allocator + Copy, B: Allocator>(
-    alloc: A,
-    (part, wanted): (Part, &[u8]),
+/// How many growths were refused before a part was reported as with ample memory.
+fn part_in_turn<B: Allocator>(
+    (limited, global): (&Limited<Global>, Global),
+    part: Part,
     optimum: &Optimum<B>,
-) -> (bool, bool) {
-    let mut text = Vec::new(alloc);
-    let reported = push_part(alloc, &mut text, part, optimum);
-    (!reported, text.as_slice() == wanted)
-}
-
-/// The same with the nth growth refused.
-fn reported_refused<A: Allocator, B: Allocator>(
-    limited: &Limited<A>,
-    nth: u64,
-    part: (Part, &[u8]),
-    optimum: &Optimum<B>,
-) -> Attempt {
-    limited.refuse(nth);
-    let (refused, is_wanted) = told(limited, part, optimum);
-    ended(limited.was_refused(), refused, is_wanted)
-}
-
-/// How many growths were refused before a part was reported; 0 where one of them was answered otherwise.
-fn in_turn<A: Allocator, B: Allocator>(
-    limited: &Limited<A>,
-    part: (Part, &[u8]),
-    optimum: &Optimum<B>,
-) -> u64 {
-    for nth in 1..MOST {
-        match reported_refused(limited, nth, part, optimum) {
-            Attempt::Reported => return nth - 1,
-            Attempt::Refused => {}
-            Attempt::Otherwise => return 0,
-        }
+) -> Option<u64> {
+    let mut ample = Vec::new(global);
+    if !push_part(global, &mut ample, part, optimum) {
+        return None;
     }
-    0
+    in_turn(limited, || {
+        let mut text = Vec::new(limited);
+        let is_pushed = push_part(limited, &mut text, part, optimum);
+        end_of(text.as_slice() == ample.as_slice(), !is_pushed)
+    })
 }
 
 /// Of each of the three freedoms the gains and the ranking take memory, and the text some more.
@@ -176,8 +127,8 @@ fn each_growth_refused(rt: HostRuntime) {
     let limited = Limited::new(rt.alloc());
     let growths = match optimum_of_a_sum(rt.alloc()) {
         Some(optimum) => [
-            in_turn(&limited, (Part::Words, REPORTED), &optimum) > 6,
-            in_turn(&limited, (Part::Word(8), NAMED_BY_NONE), &optimum) > 0,
+            part_in_turn((&limited, rt.alloc()), Part::Words, &optimum) > Some(6),
+            part_in_turn((&limited, rt.alloc()), Part::Word(8), &optimum) >= Some(1),
         ],
         None => [false; 2],
     };

@@ -16,15 +16,18 @@ const STEPPED: Status = Status::Halted(Cause::Step);
 
 static MODES: [Mode; 3] = [Mode::Normal, Mode::OneOperation, Mode::Manual];
 
+const OVERFLOWED: Status = Status::Halted(Cause::Overflow);
+
+const WAITS: Status = Status::Waiting;
+
+const GOING: Status = Status::Going;
+
+const ACTS: Status = Status::Executing;
+
+const READS: Status = Status::Reading;
+
 static STATUSES: [Status; 8] = [
-    OPERATOR,
-    STOPPED,
-    Status::Halted(Cause::Overflow),
-    STEPPED,
-    Status::Waiting,
-    Status::Going,
-    Status::Executing,
-    Status::Reading,
+    OPERATOR, STOPPED, OVERFLOWED, STEPPED, WAITS, GOING, ACTS, READS,
 ];
 
 /// Registers with something in each.
@@ -119,84 +122,124 @@ fn table() -> [(Action, Living); 15] {
     ]
 }
 
-/// The first action that is not so, and where.
-fn first_unreported_action(global: Global) -> Option<(Action, (Status, Mode))> {
+/// Statuses in Normal, and the ones after the three mode buttons.
+fn buttons() -> [(Status, [Status; 3]); 5] {
+    [
+        (STOPPED, [STOPPED; 3]),
+        (GOING, [GOING, OPERATOR, OPERATOR]),
+        (ACTS, [ACTS, ACTS, OPERATOR]),
+        (WAITS, [WAITS, WAITS, OPERATOR]),
+        (READS, [READS, READS, OPERATOR]),
+    ]
+}
+
+/// Whether the three mode buttons set the mode, and nothing else but these statuses.
+fn set_modes(global: Global, before: Status, left: &[Status; 3]) -> [bool; 3] {
+    let normal = panel(before, Mode::Normal);
+    [
+        leaves(
+            global,
+            &normal,
+            Action::Mode(MODES[0]),
+            &panel(left[0], MODES[0]),
+        ),
+        leaves(
+            global,
+            &normal,
+            Action::Mode(MODES[1]),
+            &panel(left[1], MODES[1]),
+        ),
+        leaves(
+            global,
+            &normal,
+            Action::Mode(MODES[2]),
+            &panel(left[2], MODES[2]),
+        ),
+    ]
+}
+
+/// A break point's switch, put down.
+fn breaks(which: Which) -> Action {
+    Action::BreakPoint(which, true)
+}
+
+/// What sets a switch, or puts one up that is up already, and which of the six is down then.
+fn switches() -> [(Action, [bool; 6]); 7] {
+    [
+        (
+            breaks(Which::B32),
+            [true, false, false, false, false, false],
+        ),
+        (
+            breaks(Which::B16),
+            [false, true, false, false, false, false],
+        ),
+        (breaks(Which::B8), [false, false, true, false, false, false]),
+        (breaks(Which::B4), [false, false, false, true, false, false]),
+        (
+            Action::Transfer(true),
+            [false, false, false, false, true, false],
+        ),
+        (
+            Action::SixBit(true),
+            [false, false, false, false, false, true],
+        ),
+        (Action::BreakPoint(Which::B4, false), [false; 6]),
+    ]
+}
+
+/// Whether an action at work leaves these switches, and changes nothing else.
+fn sets(global: Global, action: Action, down: &[bool; 6]) -> bool {
+    let before = panel(GOING, Mode::Normal);
+    let mut wanted = before;
+    wanted.switches = Switches {
+        b32: down[0],
+        b16: down[1],
+        b8: down[2],
+        b4: down[3],
+        transfer: down[4],
+        six_bit: down[5],
+    };
+    leaves(global, &before, action, &wanted)
+}
+
+#[test]
+fn actions_are_live_by_the_table_and_set_modes_and_switches(rt: HostRuntime) {
+    let alloc = rt.alloc();
     for (action, living) in &table() {
-        if let Some(at) = first_unreported(global, action, living) {
-            return Some((*action, at));
-        }
+        let found = first_unreported(alloc, action, living);
+        expect_eq(&rt, (*action, found), (*action, None));
     }
-    None
-}
-
-/// A status in Normal, and the ones after the three mode buttons.
-const BUTTONS: [(Status, [Status; 3]); 5] = [
-    (STOPPED, [STOPPED; 3]),
-    (Status::Going, [Status::Going, OPERATOR, OPERATOR]),
-    (
-        Status::Executing,
-        [Status::Executing, Status::Executing, OPERATOR],
-    ),
-    (
-        Status::Waiting,
-        [Status::Waiting, Status::Waiting, OPERATOR],
-    ),
-    (
-        Status::Reading,
-        [Status::Reading, Status::Reading, OPERATOR],
-    ),
-];
-
-/// Whether a mode button sets the mode, and nothing else but this status.
-fn sets_mode(global: Global, before: Status, mode: Mode, left: Status) -> bool {
-    let wanted = panel(left, mode);
-    leaves(
-        global,
-        &panel(before, Mode::Normal),
-        Action::Mode(mode),
-        &wanted,
-    )
-}
-
-/// The first status after which a mode button does something else.
-fn first_unset(global: Global) -> Option<Status> {
-    for (status, left) in &BUTTONS {
-        if !(sets_mode(global, *status, Mode::Normal, left[0])
-            && sets_mode(global, *status, Mode::OneOperation, left[1])
-            && sets_mode(global, *status, Mode::Manual, left[2]))
-        {
-            return Some(*status);
-        }
+    for (status, left) in &buttons() {
+        let found = set_modes(alloc, *status, left);
+        expect_eq(&rt, (*status, found), (*status, [true; 3]));
     }
-    None
+    for (action, down) in &switches() {
+        expect_eq(&rt, (*action, sets(alloc, *action, down)), (*action, true));
+    }
 }
 
 /// What a machine that has halted in One Operation is to have after an action.
 fn halted_wanted(action: &Action) -> Panel {
     let mut wanted = panel(STEPPED, Mode::OneOperation);
     match *action {
-        Action::Start => wanted.status = Status::Going,
+        Action::Start => wanted.status = GOING,
         Action::ClearCounter => wanted.counter = Address::default(),
         Action::Fill => wanted.register = Word::of_bits(0x8000_0012),
-        _ => wanted.status = Status::Executing,
+        _ => wanted.status = ACTS,
     }
     wanted
 }
 
 /// Whether an action leaves that.
 fn halted_leaves(global: Global, action: &Action) -> bool {
-    let wanted = halted_wanted(action);
-    leaves(
-        global,
-        &panel(STEPPED, Mode::OneOperation),
-        *action,
-        &wanted,
-    )
+    let before = panel(STEPPED, Mode::OneOperation);
+    leaves(global, &before, *action, &halted_wanted(action))
 }
 
 /// Whether the key of code 6 changes the accumulator alone, and to this.
-fn enters(global: Global, status: Status, mode: Mode, six_bit: bool, accumulator: u32) -> bool {
-    let mut before = panel(status, mode);
+fn enters(global: Global, status: Status, six_bit: bool, accumulator: u32) -> bool {
+    let mut before = panel(status, Mode::Manual);
     before.switches.six_bit = six_bit;
     let mut wanted = before;
     wanted.accumulator = accumulator;
@@ -205,7 +248,7 @@ fn enters(global: Global, status: Status, mode: Mode, six_bit: bool, accumulator
 
 /// Whether both actions that end an input in a mode leave this status, and change nothing else.
 fn end_input(global: Global, mode: Mode, status: Status) -> bool {
-    let (before, wanted) = (panel(Status::Waiting, mode), panel(status, mode));
+    let (before, wanted) = (panel(WAITS, mode), panel(status, mode));
     leaves(global, &before, Action::StartCompute, &wanted)
         && leaves(global, &before, key(32), &wanted)
 }
@@ -214,7 +257,7 @@ fn end_input(global: Global, mode: Mode, status: Status) -> bool {
 fn starts_reading(global: Global, status: Status, mode: Mode) -> bool {
     let before = panel(status, mode);
     let (live, after, on) = pressed(global, &before, Action::StartRead);
-    live && on && after == panel(Status::Reading, mode)
+    live && on && after == panel(READS, mode)
 }
 
 #[test]
@@ -227,91 +270,23 @@ fn halted_and_waiting_machines_take_actions(rt: HostRuntime) {
         halted_leaves(alloc, &Action::Execute),
     ];
     let entered = [
-        enters(alloc, OPERATOR, Mode::Manual, false, 0x131),
-        enters(alloc, Status::Waiting, Mode::Normal, false, 0x131),
-        enters(alloc, Status::Waiting, Mode::Normal, true, 0x4c6),
+        enters(alloc, OPERATOR, false, 0x131),
+        enters(alloc, WAITS, false, 0x131),
+        enters(alloc, WAITS, true, 0x4c6),
     ];
     let ended = [
-        end_input(alloc, Mode::Normal, Status::Going),
+        end_input(alloc, Mode::Normal, GOING),
         end_input(alloc, Mode::OneOperation, STEPPED),
         end_input(alloc, Mode::Manual, OPERATOR),
     ];
     let reading = [
-        starts_reading(alloc, Status::Waiting, Mode::Normal),
-        starts_reading(alloc, Status::Waiting, Mode::OneOperation),
-        starts_reading(alloc, Status::Waiting, Mode::Manual),
+        starts_reading(alloc, WAITS, Mode::Normal),
+        starts_reading(alloc, WAITS, Mode::OneOperation),
         starts_reading(alloc, OPERATOR, Mode::Manual),
     ];
     expect_eq(
         &rt,
         (halted, entered, ended, reading),
-        ([true; 4], [true; 3], [true; 3], [true; 4]),
+        ([true; 4], [true; 3], [true; 3], [true; 3]),
     );
-}
-
-/// What sets a switch, or puts one up that is up already, and the switch that is down then.
-fn switches_table() -> [(Action, Switches); 7] {
-    let up = Switches::default();
-    [
-        (
-            Action::BreakPoint(Which::B32, true),
-            Switches { b32: true, ..up },
-        ),
-        (
-            Action::BreakPoint(Which::B16, true),
-            Switches { b16: true, ..up },
-        ),
-        (
-            Action::BreakPoint(Which::B8, true),
-            Switches { b8: true, ..up },
-        ),
-        (
-            Action::BreakPoint(Which::B4, true),
-            Switches { b4: true, ..up },
-        ),
-        (
-            Action::Transfer(true),
-            Switches {
-                transfer: true,
-                ..up
-            },
-        ),
-        (
-            Action::SixBit(true),
-            Switches {
-                six_bit: true,
-                ..up
-            },
-        ),
-        (Action::BreakPoint(Which::B4, false), up),
-    ]
-}
-
-/// Whether an action at work leaves these switches, and changes nothing else.
-fn sets(global: Global, action: &Action, switches: Switches) -> bool {
-    let before = panel(Status::Going, Mode::Normal);
-    let mut wanted = before;
-    wanted.switches = switches;
-    leaves(global, &before, *action, &wanted)
-}
-
-/// The first action that leaves others.
-fn first_not_set(global: Global) -> Option<Action> {
-    for (action, switches) in &switches_table() {
-        if !sets(global, action, *switches) {
-            return Some(*action);
-        }
-    }
-    None
-}
-
-#[test]
-fn actions_are_live_by_the_table_and_set_modes_and_switches(rt: HostRuntime) {
-    let alloc = rt.alloc();
-    let found = (
-        first_unreported_action(alloc),
-        first_unset(alloc),
-        first_not_set(alloc),
-    );
-    expect_eq(&rt, found, (None, None, None));
 }

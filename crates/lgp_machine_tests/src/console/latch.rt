@@ -40,49 +40,28 @@ fn take_keys(latch: &mut Latch) -> u8 {
     20
 }
 
-/// How large a latch is, how many keys come out of it, whether there is room for an action then, and how large it is at last.
-type Copied = ((usize, bool), u8, bool, (usize, bool));
+/// What a latch of sixteen keys and its copy give: how large they are, how many keys come out of the copy and of the latch, whether
+/// anything comes after them, and how large both are then.
+type Taken = ([(usize, bool); 2], [u8; 2], bool, [(usize, bool); 2]);
 
-/// That of a copy.
-fn copied(latch: &Latch) -> Copied {
+fn taken(mut latch: Latch) -> Taken {
     let mut copy = latch.copy();
-    let full = size(&copy);
-    let taken = take_keys(&mut copy);
-    let kept = keep(&mut copy, Action::Start);
-    (full, taken, kept, size(&copy))
+    let full = [size(&latch), size(&copy)];
+    let taken = [take_keys(&mut copy), take_keys(&mut latch)];
+    let none = first(&mut latch).is_none();
+    (full, taken, none, [size(&latch), size(&copy)])
 }
 
-/// How large a new latch is and whether nothing comes out; how many keys are kept, whether an action more is, and the size then;
-/// a copy; and how many keys come out, whether nothing comes after them, and the size then.
-type Kept = (
-    ((usize, bool), bool),
-    (u8, bool, (usize, bool)),
-    Copied,
-    (u8, bool, (usize, bool)),
-);
-
-fn keep_and_take() -> Kept {
+/// How large a new latch is; how many keys it keeps, and whether an action more; and what is taken then.
+fn keep_and_take() -> ((usize, bool), (u8, bool), Taken) {
     let mut latch = Latch::new();
-    let new = (size(&latch), first(&mut latch).is_none());
-    let kept = keep_keys(&mut latch);
-    let more = keep(&mut latch, Action::Start);
-    let full = (kept, more, size(&latch));
-    let copied = copied(&latch);
-    let taken = take_keys(&mut latch);
-    let none = first(&mut latch).is_none();
-    (new, full, copied, (taken, none, size(&latch)))
+    let new = size(&latch);
+    let kept = (keep_keys(&mut latch), keep(&mut latch, Action::Start));
+    (new, kept, taken(latch))
 }
 
 #[test]
 fn the_latch_keeps_sixteen_oldest_first(rt: HostRuntime) {
-    expect_eq(
-        &rt,
-        keep_and_take(),
-        (
-            ((0, true), true),
-            (16, false, (16, false)),
-            ((16, false), 16, true, (1, false)),
-            (16, true, (0, true)),
-        ),
-    );
+    let taken = ([(16, false); 2], [16; 2], true, [(0, true); 2]);
+    expect_eq(&rt, keep_and_take(), ((0, true), (16, false), taken));
 }

@@ -3,15 +3,18 @@
 ghost use Rattle.std.specs.Prelude.{◌≡◌, IfSome};
 ghost use Rattle.lgp_table.specs.Interleaving.{at_boundary};
 
+use crate::address;
 use crate::loader::image;
 use lgp_assembler::Image;
-use lgp_debugger::{Debugger, HitFault, IdleFault, Ran, RuleFault, RunFault, StepFault};
+use lgp_debugger::{
+    Debugger, HitFault, IdleFault, Ran, Reason, RuleFault, RunFault, RunRefusal, StepFault,
+};
 use lgp_flexo::{Code, read_tape_text};
 use lgp_history::{BackFault, History, Rule};
 use lgp_loader::LoadFault;
 use lgp_machine::{Look, Machine, MountFault, PutFault};
 use lgp_table::{Action, Mode, Status};
-use lgp_word::{Address, Word};
+use lgp_word::Word;
 use std::alloc::{AllocError, Allocator};
 
 /// A rule by the number of its address.
@@ -26,9 +29,10 @@ pub enum Named {
 pub enum Button {
     Start,
     StartCompute,
-    StartRead,
     Normal,
+    OneOperation,
     Manual,
+    Execute,
 }
 
 /// A call of a debugger or a look at it, and last what it has to answer.
@@ -48,15 +52,21 @@ pub enum Row {
     /// The same rule a given number of times, and how many are added until one is refused.
     AddRules(Named, u64, u64),
     RemoveRule(u8, Option<Named>),
-    Run(u64, Result<Ran, RunFault>),
-    /// A run that no rule stops.
-    RunFreely(u64, Result<Ran, RunFault>),
+    /// A run of at most a given number of orders: how many are done, and why it ends.
+    Ran(u64, u64, Reason),
+    /// The same where no rule stops it.
+    RanFreely(u64, u64, Reason),
+    /// A run that the clock's end stops: how many orders are done.
+    Stopped(u64, u64),
+    StoppedFreely(u64, u64),
     /// One order of a run.
     GoOn(Result<Option<u8>, StepFault>),
     LastHit(Result<(u64, u8), HitFault>),
     /// A program by its source, and how many orders the load takes.
     Load(&'static [u8], Result<u64, LoadFault>),
-    All(Shown),
+    /// What shows at a boundary, but for mode, switches and clock: the status, the counter, the accumulator, the register, and whether
+    /// the reader is on.
+    All(Status, u16, u32, u32, bool),
     Clock(u64),
     /// How many steps and how many orders are kept.
     Kept((u64, u64)),
@@ -64,21 +74,6 @@ pub enum Row {
     Printed((usize, Option<u8>)),
     TapeLeft(usize),
     WordAt(u16, u32),
-}
-
-/// What shows at a boundary, but for mode and switches.
-pub struct Shown {
-    pub status: Status,
-    pub counter: u16,
-    pub accumulator: u32,
-    pub register: u32,
-    pub reader_on: bool,
-    pub clock: u64,
-}
-
-/// The address of that number, or 0000 above all.
-fn address(number: u16) -> Address {
-    Address::new(number).unwrap_or_default()
 }
 
 /// The rule of a name.
@@ -93,20 +88,11 @@ fn action_of(button: Button) -> Action {
     match button {
         Button::Start => Action::Start,
         Button::StartCompute => Action::StartCompute,
-        Button::StartRead => Action::StartRead,
         Button::Normal => Action::Mode(Mode::Normal),
+        Button::OneOperation => Action::Mode(Mode::OneOperation),
         Button::Manual => Action::Mode(Mode::Manual),
+        Button::Execute => Action::Execute,
     }
-}
-
-/// Whether a machine shows this.
-fn is_shown(look: &Look, wanted: &Shown) -> bool {
-    look.status == wanted.status
-        && look.counter.number() == wanted.counter
-        && look.accumulator == wanted.accumulator
-        && look.register.get() == wanted.register
-        && look.reader_on == wanted.reader_on
-        && look.clock == wanted.clock
 }
 
 // The debugger's methods without their contracts, which would fill the context of each test.
@@ -233,6 +219,17 @@ pub fn run_freely<H: History<A>, A: Allocator>(
     lab.run_freely(limit)
 }
 
+/// The answer of a run that has ended.
+pub fn ran(orders: u64, reason: Reason) -> Result<Ran, RunFault> {
+    Ok(Ran { orders, reason })
+}
+
+/// The answer of one that the clock's end has stopped.
+fn stopped(orders: u64) -> Result<Ran, RunFault> {
+    let fault = RunRefusal::ClockEnd;
+    Err(RunFault { orders, fault })
+}
+
 /// One order of a run, and the number of the rule that stops it there.
 fn go_on<H: History<A>, A: Allocator>(lab: &mut Debugger<H, A>) -> Result<Option<u8>, StepFault> {
     lab.go_on()
@@ -270,6 +267,18 @@ fn is_loaded<H: History<A>, A: Allocator + Copy>(
 /// What the machine shows.
 pub fn look<H: History<A>, A: Allocator>(lab: &Debugger<H, A>) -> Look {
     lab.look()
+}
+
+/// Status, counter, accumulator and register, and whether the reader is on.
+fn all(look: &Look) -> (Status, u16, u32, u32, bool) {
+    let (counter, register) = (look.counter.number(), look.register.get());
+    (
+        look.status,
+        counter,
+        look.accumulator,
+        register,
+        look.reader_on,
+    )
 }
 
 /// The clock.
@@ -332,7 +341,9 @@ pub fn with_order<H: History<A>, A: Allocator + Copy>(
 /// Whether a look answers so.
 fn is_seen<H: History<A>, A: Allocator>(lab: &Debugger<H, A>, row: &Row) -> bool {
     match row {
-        Row::All(wanted) => is_shown(&look(lab), wanted),
+        Row::All(status, counter, accumulator, register, is_on) => {
+            all(&look(lab)) == (*status, *counter, *accumulator, *register, *is_on)
+        }
         Row::Clock(wanted) => clock(lab) == *wanted,
         Row::Kept(wanted) => kept(lab) == *wanted,
         Row::Printed(wanted) => printed(lab) == *wanted,
@@ -348,8 +359,10 @@ fn is_performed<H: History<A>, A: Allocator>(lab: &mut Debugger<H, A>, row: &Row
         Row::Step(wanted) => step(lab) == *wanted,
         Row::Steps(count, wanted) => steps(lab, *count) == *wanted,
         Row::Back(orders, wanted) => back(lab, *orders) == *wanted,
-        Row::Run(limit, wanted) => run(lab, *limit) == *wanted,
-        Row::RunFreely(limit, wanted) => run_freely(lab, *limit) == *wanted,
+        Row::Ran(limit, orders, reason) => run(lab, *limit) == ran(*orders, *reason),
+        Row::RanFreely(limit, orders, reason) => run_freely(lab, *limit) == ran(*orders, *reason),
+        Row::Stopped(limit, orders) => run(lab, *limit) == stopped(*orders),
+        Row::StoppedFreely(limit, orders) => run_freely(lab, *limit) == stopped(*orders),
         Row::GoOn(wanted) => go_on(lab) == *wanted,
         Row::LastHit(wanted) => last_hit(lab) == *wanted,
         _ => is_seen(lab, row),
@@ -369,7 +382,7 @@ fn is_done<H: History<A>, A: Allocator>(lab: &mut Debugger<H, A>, row: &Row) -> 
 }
 
 /// Calls, and answers whether the call answers so.
-fn is_answered<H: History<A>, A: Allocator + Copy>(
+pub fn is_answered<H: History<A>, A: Allocator + Copy>(
     lab: &mut Debugger<H, A>,
     alloc: A,
     row: &Row,

@@ -1,60 +1,11 @@
-//! Long tapes and full histories, with ample memory.
+//! Full histories, with ample memory.
 
-use super::calls::{
-    Button, back, clock, kept, last_hit, mount, press_button, run, tape_left, with_order,
-};
-use crate::expect_eq;
+use super::calls::{Button, back, clock, kept, last_hit, press_button, run, with_order};
 use crate::history::{Job, Kind, over_kind};
+use crate::{TRANSFER, expect_eq};
 use lgp_debugger::{Debugger, HitFault, Ran, Reason, RunFault};
-use lgp_flexo::{Code, TAPE_LIMIT};
 use lgp_history::{BackFault, CAPACITY_LIMIT, History};
-use lgp_machine::MountFault;
 use std::alloc::{AllocError, Allocator};
-
-/// A transfer to 0000.
-const TRANSFER: u32 = 0x000a_0000;
-
-/// Mounts a tape of a given number of codes: what that answers, how many codes are left, and how many steps are kept. `None` without
-/// memory for the tape.
-type Mounted = Option<(Result<(), (MountFault, usize)>, usize, (u64, u64))>;
-
-fn mounted<H: History<A>, A: Allocator>(
-    alloc: A,
-    lab: &mut Debugger<H, A>,
-    length: usize,
-) -> Mounted {
-    match vec![in alloc; Code::STOP; length] {
-        Ok(tape) => Some((mount(lab, tape), tape_left(lab), kept(lab))),
-        Err(_) => None,
-    }
-}
-
-/// A tape that is too long, and then one that is just short enough.
-struct TwoMounted;
-
-impl<A: Allocator + Copy> Job<A> for TwoMounted {
-    type Answer = [Mounted; 2];
-
-    fn over<H: History<A>>(&self, alloc: A, history: Result<H, AllocError>) -> [Mounted; 2] {
-        match with_order(alloc, history, TRANSFER) {
-            Some(mut lab) => [
-                mounted(alloc, &mut lab, TAPE_LIMIT + 1),
-                mounted(alloc, &mut lab, TAPE_LIMIT),
-            ],
-            None => [None; 2],
-        }
-    }
-}
-
-#[test]
-fn a_tape_has_at_most_1048576_codes(rt: HostRuntime) {
-    let wanted = [
-        Some((Err((MountFault::TooLong, 1_048_577)), 0, (0, 0))),
-        Some((Ok(()), 1_048_576, (1, 0))),
-    ];
-    let seen = over_kind(rt.alloc(), (Kind::Records, 4), &TwoMounted);
-    expect_eq(&rt, seen, wanted);
-}
 
 /// What a call of `back` answers, and then the clock and what is kept.
 type Back = (Result<(), BackFault>, u64, (u64, u64));

@@ -1,20 +1,14 @@
 //! Worked examples: what is called, and what each call answers.
 
-use super::calls::{Button, Named, Row, Shown, first_wrong, with_order};
-use crate::expect_eq;
+use super::calls::{Button, Named, Row, first_wrong, with_order};
 use crate::history::{Job, Kind, over_kind};
-use lgp_debugger::{HitFault, IdleFault, Ran, Reason, RuleFault, RunFault, RunRefusal, StepFault};
+use crate::{PRINT, TRANSFER, expect_eq};
+use lgp_debugger::{HitFault, IdleFault, Reason, RuleFault, StepFault};
 use lgp_history::{BackFault, History};
 use lgp_loader::LoadFault;
 use lgp_machine::{MountFault, PutFault};
 use lgp_table::{Cause, Status};
-use std::alloc::{AllocError, Allocator, Global};
-
-/// The order that transfers to 0000.
-const TRANSFER: u32 = 0x000a_0000;
-
-/// The order that prints the code 57.
-const PRINT: u32 = 0x0008_3900;
+use std::alloc::{AllocError, Allocator};
 
 /// Calls of a debugger over a new machine, with what each has to answer.
 struct Example {
@@ -55,14 +49,8 @@ const LATEST_STEPS: Example = Example {
         Row::Back(5, Err(BackFault::TooFar(4))),
         Row::Clock(643),
         Row::Back(4, Ok(())),
-        Row::All(Shown {
-            status: Status::Going,
-            counter: 0,
-            accumulator: 0,
-            register: TRANSFER,
-            reader_on: false,
-            clock: 387,
-        }),
+        Row::Clock(387),
+        Row::All(Status::Going, 0, 0, TRANSFER, false),
         Row::Kept((0, 0)),
     ],
 };
@@ -78,29 +66,11 @@ const RULES: Example = Example {
         Row::Put(51, 2, Ok(())),
         Row::Press(Button::Start, true),
         Row::AddRule(Named::At(2), Ok(0)),
-        Row::Run(
-            100,
-            Ok(Ran {
-                orders: 2,
-                reason: Reason::Rule(0),
-            }),
-        ),
+        Row::Ran(100, 2, Reason::Rule(0)),
         Row::RemoveRule(0, Some(Named::At(2))),
         Row::AddRule(Named::Changed(50), Ok(0)),
-        Row::Run(
-            100,
-            Ok(Ran {
-                orders: 1,
-                reason: Reason::Rule(0),
-            }),
-        ),
-        Row::Run(
-            100,
-            Ok(Ran {
-                orders: 4,
-                reason: Reason::Rule(0),
-            }),
-        ),
+        Row::Ran(100, 1, Reason::Rule(0)),
+        Row::Ran(100, 4, Reason::Rule(0)),
         Row::LastHit(Ok((1, 0))),
         Row::WordAt(50, 2),
         Row::LastHit(Ok((4, 0))),
@@ -122,13 +92,7 @@ const FREE_RUN: Example = Example {
         Row::Press(Button::Start, true),
         Row::AddRule(Named::Changed(50), Ok(0)),
         Row::AddRule(Named::At(2), Ok(1)),
-        Row::RunFreely(
-            5,
-            Ok(Ran {
-                orders: 5,
-                reason: Reason::Limit,
-            }),
-        ),
+        Row::RanFreely(5, 5, Reason::Limit),
         Row::WordAt(50, 2),
         Row::GoOn(Ok(Some(1))),
         Row::GoOn(Ok(Some(0))),
@@ -136,13 +100,7 @@ const FREE_RUN: Example = Example {
         Row::GoOn(Ok(None)),
         Row::Kept((13, 8)),
         Row::Press(Button::Manual, true),
-        Row::RunFreely(
-            5,
-            Ok(Ran {
-                orders: 0,
-                reason: Reason::Rest,
-            }),
-        ),
+        Row::RanFreely(5, 0, Reason::Rest),
         Row::Back(3, Ok(())),
         Row::WordAt(50, 2),
     ],
@@ -158,14 +116,8 @@ const HUNDRED_STEPS: Example = Example {
         Row::Kept((100, 99)),
         Row::Clock(6339),
         Row::Back(99, Ok(())),
-        Row::All(Shown {
-            status: Status::Going,
-            counter: 0,
-            accumulator: 0,
-            register: 0,
-            reader_on: false,
-            clock: 0,
-        }),
+        Row::Clock(0),
+        Row::All(Status::Going, 0, 0, 0, false),
         Row::Kept((1, 0)),
         Row::Step(Ok(67)),
         Row::Kept((2, 1)),
@@ -183,14 +135,8 @@ const INPUT_GOES_BACK: Example = Example {
         Row::Steps(2, 2),
         Row::TapeLeft(0),
         Row::Back(1, Ok(())),
-        Row::All(Shown {
-            status: Status::Going,
-            counter: 1,
-            accumulator: 0,
-            register: 0x0008_0000,
-            reader_on: true,
-            clock: 67,
-        }),
+        Row::Clock(67),
+        Row::All(Status::Going, 1, 0, 0x0008_0000, true),
         Row::TapeLeft(5),
     ],
 };
@@ -245,14 +191,14 @@ const LOAD: Example = Example {
         Row::Put(0, TRANSFER, Ok(())),
         Row::Kept((1, 0)),
         Row::Load(b" org 0100\n word 00000004\n end", Ok(23)),
-        Row::All(Shown {
-            status: Status::Halted(Cause::Stop),
-            counter: 4052,
-            accumulator: 0x8000_0000,
-            register: 0x8000_0000,
-            reader_on: false,
-            clock: 15342,
-        }),
+        Row::Clock(15342),
+        Row::All(
+            Status::Halted(Cause::Stop),
+            4052,
+            0x8000_0000,
+            0x8000_0000,
+            false,
+        ),
         Row::WordAt(64, 4),
         Row::Kept((0, 0)),
     ],
@@ -265,14 +211,8 @@ const LOAD_AT_THE_END: Example = Example {
     rows: &[
         Row::Idle((1 << 62) - 1, Ok(())),
         Row::Load(b" end", Err(LoadFault::ClockEnd)),
-        Row::All(Shown {
-            status: Status::Executing,
-            counter: 0,
-            accumulator: 0x0008_0000,
-            register: 0x000c_3f00,
-            reader_on: false,
-            clock: (1 << 62) - 1,
-        }),
+        Row::Clock((1 << 62) - 1),
+        Row::All(Status::Executing, 0, 0x0008_0000, 0x000c_3f00, false),
         Row::WordAt(4032, 0),
         Row::Kept((0, 0)),
     ],
@@ -291,13 +231,7 @@ const AT_REST: Example = Example {
         Row::Kept((1, 0)),
         Row::Press(Button::StartCompute, false),
         Row::Kept((1, 0)),
-        Row::Run(
-            10,
-            Ok(Ran {
-                orders: 0,
-                reason: Reason::Rest,
-            }),
-        ),
+        Row::Ran(10, 0, Reason::Rest),
     ],
 };
 
@@ -311,13 +245,7 @@ const CLOCK_END: Example = Example {
         Row::Idle((1 << 62) - 200, Ok(())),
         Row::Idle(201, Err(IdleFault::ClockEnd)),
         Row::Press(Button::Start, true),
-        Row::Run(
-            10,
-            Err(RunFault {
-                orders: 3,
-                fault: RunRefusal::ClockEnd,
-            }),
-        ),
+        Row::Stopped(10, 3),
         Row::Step(Err(StepFault::ClockEnd)),
         Row::GoOn(Err(StepFault::ClockEnd)),
         Row::Clock((1 << 62) - 61),
@@ -327,56 +255,17 @@ const CLOCK_END: Example = Example {
         Row::Back(3, Ok(())),
         Row::Clock((1 << 62) - 200),
         Row::AddRule(Named::At(0), Ok(0)),
-        Row::RunFreely(
-            10,
-            Err(RunFault {
-                orders: 3,
-                fault: RunRefusal::ClockEnd,
-            }),
-        ),
+        Row::StoppedFreely(10, 3),
         Row::RemoveRule(0, Some(Named::At(0))),
         Row::Kept((5, 3)),
         Row::Back(3, Ok(())),
-        Row::Run(
-            3,
-            Ok(Ran {
-                orders: 3,
-                reason: Reason::Limit,
-            }),
-        ),
+        Row::Ran(3, 3, Reason::Limit),
         Row::Press(Button::Manual, true),
         Row::Idle(62, Err(IdleFault::ClockEnd)),
         Row::Idle(61, Ok(())),
         Row::Clock(1 << 62),
         Row::Idle(1, Err(IdleFault::ClockEnd)),
         Row::Idle(0, Ok(())),
-    ],
-};
-
-/// In Manual Start Read is live, and a tape is read up to its conditional stop: a word time, and 384 for each of three codes.
-const START_READ: Example = Example {
-    capacity: 100,
-    first: 0,
-    rows: &[
-        Row::Press(Button::StartRead, false),
-        Row::Mount(b"12'3", Ok(())),
-        Row::Press(Button::Manual, true),
-        Row::Press(Button::StartRead, true),
-        Row::Kept((3, 0)),
-        Row::Step(Ok(1153)),
-        Row::TapeLeft(1),
-        Row::Back(1, Ok(())),
-        Row::TapeLeft(4),
-        Row::Clock(0),
-        Row::Run(
-            10,
-            Ok(Ran {
-                orders: 1,
-                reason: Reason::Rest,
-            }),
-        ),
-        Row::LastHit(Err(HitFault::NoHit(1))),
-        Row::Kept((4, 1)),
     ],
 };
 
@@ -394,7 +283,7 @@ const MANY_RULES: Example = Example {
 };
 
 /// Over each history.
-static EXAMPLES: [Example; 14] = [
+static EXAMPLES: [Example; 13] = [
     PRINT_GOES_BACK,
     LATEST_STEPS,
     RULES,
@@ -407,13 +296,8 @@ static EXAMPLES: [Example; 14] = [
     LOAD_AT_THE_END,
     AT_REST,
     CLOCK_END,
-    START_READ,
     MANY_RULES,
 ];
-
-fn examples() -> &'static [Example] {
-    &EXAMPLES
-}
 
 /// The place of the first row that goes wrong over a history, or how many there are; more than that without memory.
 impl<A: Allocator + Copy> Job<A> for Example {
@@ -427,25 +311,14 @@ impl<A: Allocator + Copy> Job<A> for Example {
     }
 }
 
-/// What goes wrong first over histories of a kind: the place of the example and of the row, `None` where nothing does.
-fn first_of_all(alloc: Global, kind: Kind, examples: &[Example]) -> Option<(usize, usize)> {
-    let mut place = 0usize;
-    for example in examples {
-        let row = over_kind(alloc, (kind, example.capacity), example);
-        if row != example.rows.len() {
-            return Some((place, row));
-        }
-        place = place.saturating_add(1);
-    }
-    None
-}
-
 #[test]
 fn examples_over_each_history(rt: HostRuntime) {
-    let examples = examples();
-    let found = [
-        first_of_all(rt.alloc(), Kind::Records, examples),
-        first_of_all(rt.alloc(), Kind::Checkpoints, examples),
-    ];
-    expect_eq(&rt, found, [None; 2]);
+    let alloc = rt.alloc();
+    for example in &EXAMPLES {
+        let found = [
+            over_kind(alloc, (Kind::Records, example.capacity), example),
+            over_kind(alloc, (Kind::Checkpoints, example.capacity), example),
+        ];
+        expect_eq(&rt, found, [example.rows.len(); 2]);
+    }
 }

@@ -2,9 +2,9 @@
 
 ghost use Rattle.std.specs.Prelude.{◌≡◌, false};
 
-use super::calls::{Button, Named, add_rule, clock, kept, press_button, with_order};
-use crate::expect_eq;
+use super::calls::{Button, Named, add_rule, clock, kept, press_button, ran, with_order};
 use crate::history::{Job, Kind, over_kind};
+use crate::{TRANSFER, expect_eq};
 use lgp_debugger::{Debugger, Ran, Reason, RunFault, RunRefusal, WatchFault, Watcher};
 use lgp_history::History;
 use std::alloc::{AllocError, Allocator};
@@ -43,9 +43,6 @@ impl<H: History<A>, A: Allocator> Watcher<H, A, u64> for LatestBeginning {
     }
 }
 
-/// A transfer to 0000.
-const TRANSFER: u32 = 0x000a_0000;
-
 /// A run's limit, and how many orders the watcher has room for.
 type Asked = (u64, u64);
 
@@ -57,10 +54,6 @@ fn watched<H: History<A>, A: Allocator>(lab: &mut Debugger<H, A>, asked: Asked) 
     let mut watcher = LatestBeginning { room: asked.1 };
     let answer = lab.run_watched(asked.0, &mut watcher, &mut latest);
     (answer, latest, clock(lab), kept(lab).1)
-}
-
-fn ran(orders: u64, reason: Reason) -> Result<Ran, RunFault> {
-    Ok(Ran { orders, reason })
 }
 
 fn refused(orders: u64) -> Result<Ran, RunFault> {

@@ -67,21 +67,12 @@ static LOADS: &[Load<'static>] = &[
     },
 ];
 
-/// The place of the first load that ends otherwise; `None` where there is none.
-fn first_ended_otherwise(alloc: Global) -> Option<usize> {
-    let mut place = 0usize;
-    for load in LOADS {
-        if !has_ended(alloc, load) {
-            return Some(place);
-        }
-        place = place.saturating_add(1);
-    }
-    None
-}
-
 #[test]
 fn programs_are_loaded(rt: HostRuntime) {
-    expect_eq(&rt, first_ended_otherwise(rt.alloc()), None);
+    for load in LOADS {
+        let seen = (load.source, has_ended(rt.alloc(), load));
+        expect_eq(&rt, seen, (load.source, true));
+    }
 }
 
 static WORDS_OF_TWO_BLOCKS: &[(&[u8], &[u8])] = &[
@@ -182,7 +173,7 @@ const TRANSFER: Switches = Switches {
 
 /// The same from the beginning, with the tape of a program of one word.
 fn disturbed_load(alloc: Global, machine: &mut Machine, image: &Image) -> Option<Look> {
-    let base = Address::parse(b"6300")?;
+    let base = at(b"6300");
     let is_started = match tape_by(alloc, image, Way::Longest) {
         Ok(tape) => start_loader(machine, base, tape),
         Err(_) => false,

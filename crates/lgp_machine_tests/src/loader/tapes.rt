@@ -50,55 +50,18 @@ static TAPES: &[(&[u8], Way<'static>, &[u8])] = &[
     ),
 ];
 
-/// The place of the first row whose tape is another, or how many rows there are.
-fn first_other_tape(alloc: Global) -> usize {
-    let mut place = 0usize;
-    for (source, way, wanted) in TAPES {
-        match image(alloc, source) {
-            Some(image) if has_tape(alloc, &image, *way, wanted) => {}
-            _ => return place,
-        }
-        place = place.saturating_add(1);
+/// Whether the tape of a source is this text.
+fn is_taped(alloc: Global, (source, way): (&[u8], Way), wanted: &[u8]) -> bool {
+    match image(alloc, source) {
+        Some(image) => has_tape(alloc, &image, way, wanted),
+        None => false,
     }
-    place
 }
 
 #[test]
 fn tapes_as_texts(rt: HostRuntime) {
-    expect_eq(&rt, first_other_tape(rt.alloc()), TAPES.len());
-}
-
-/// How long the cut tape of a source is, or why it is not cut.
-fn cut_length(alloc: Global, source: &[u8], counts: &[usize]) -> Option<Result<usize, CutFault>> {
-    let image = image(alloc, source)?;
-    Some(tape_length(alloc, &image, Way::Cut(counts)))
-}
-
-static LENGTHS: &[(&[u8], &[usize], Result<usize, CutFault>)] = &[
-    (TWO_WORDS, &[1, 1], Ok(65)),
-    (TWO_WORDS, &[2], Ok(46)),
-    (NO_WORDS, &[], Ok(9)),
-    (NO_WORDS, &[0], Err(CutFault::BadCut)),
-    (TWO_PLACES, &[1, 1, 1, 1], Ok(121)),
-    (TWO_PLACES, &[3, 1], Err(CutFault::BadCut)),
-    (TWO_PLACES, &[2, 2], Err(CutFault::BadCut)),
-    (TWO_PLACES, &[1, 2, 1], Err(CutFault::BadCut)),
-    (TWO_PLACES, &[4], Err(CutFault::BadCut)),
-];
-
-/// The place of the first row whose tape has another length, or how many rows there are.
-fn first_other_length(alloc: Global) -> usize {
-    let mut place = 0usize;
-    for (source, counts, wanted) in LENGTHS {
-        if cut_length(alloc, source, counts) != Some(*wanted) {
-            return place;
-        }
-        place = place.saturating_add(1);
+    for (source, way, wanted) in TAPES {
+        let seen = (*wanted, is_taped(rt.alloc(), (source, *way), wanted));
+        expect_eq(&rt, seen, (*wanted, true));
     }
-    place
-}
-
-#[test]
-fn lengths_of_cut_tapes(rt: HostRuntime) {
-    expect_eq(&rt, first_other_length(rt.alloc()), LENGTHS.len());
 }

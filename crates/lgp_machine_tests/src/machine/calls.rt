@@ -14,15 +14,11 @@ use std::alloc::{Allocator, Global};
 
 const OPERATOR: Status = Status::Halted(Cause::Operator);
 
-const STOPPED: Status = Status::Halted(Cause::Stop);
-
-/// A button of the console, or the key of the conditional stop.
+/// A button of the console.
 #[derive(Clone, Copy)]
 enum Button {
     Start,
     Manual,
-    SixBit,
-    Stop,
 }
 
 /// A call or a look, and last what it has to answer.
@@ -31,8 +27,6 @@ enum Row {
     Shows(u16, u32, Status, u64),
     /// Within an activity nothing shows, lies ahead or is live, and no tape is seen.
     Hidden,
-    /// Accumulator and clock.
-    Accumulator(u32, u64),
     WordAt(u16, u32),
     /// The parts of the word at 0000 are those of a transfer to 0000.
     Transfers,
@@ -41,8 +35,6 @@ enum Row {
     TapeLeft(usize),
     /// What the next activity costs, and the number of the code that it prints.
     Ahead(u64, Option<u8>),
-    /// What an activity took, the status after it and the number of the code that it printed.
-    Prints(u64, Status, u8),
     /// The status after an activity.
     After(Result<Status, OrderFault>),
     Turn(Result<bool, TurnFault>),
@@ -54,8 +46,6 @@ enum Row {
     Press(Button, Pressed),
     /// A key by the number of its code: whether it is predicted to be live or dead, is so, and leaves this accumulator.
     Strike((u8, Pressed, u32)),
-    /// The tape of a text, which is taken.
-    Tape(&'static [u8]),
     /// A tape of a given number of codes; a refused one is reported by the number of codes handed back.
     Mount(usize, Result<(), (MountFault, usize)>),
 }
@@ -64,8 +54,6 @@ fn action_of(button: Button) -> Action {
     match button {
         Button::Start => Action::Start,
         Button::Manual => Action::Mode(Mode::Manual),
-        Button::SixBit => Action::SixBit(true),
-        Button::Stop => Action::Key(Code::STOP),
     }
 }
 
@@ -95,7 +83,6 @@ fn is_seen<A: Allocator>(machine: &Machine<A>, row: &Row) -> bool {
             look(machine) == shown(*counter, 0, *register, *status, *clock)
         }
         Row::Hidden => is_hidden(machine),
-        Row::Accumulator(bits, clock) => accumulator_and_clock(machine) == Some((*bits, *clock)),
         Row::WordAt(at, wanted) => word_at(machine, *at) == *wanted,
         Row::Transfers => parts_at(machine, 0) == (false, Op::U, address(0)),
         Row::Printed(count, number) => printed(machine) == (*count, code(*number)),
@@ -118,9 +105,6 @@ fn strikes<A: Allocator>(
 /// Whether orders and word times or a look answer so.
 fn is_performed<A: Allocator>(machine: &mut Machine<A>, row: &Row) -> bool {
     match row {
-        Row::Prints(cost, status, number) => {
-            next_order(machine) == Ok((*cost, *status, Code::new(*number)))
-        }
         Row::After(wanted) => status_after(machine) == *wanted,
         Row::Turn(wanted) => turn(machine) == *wanted,
         Row::Turns(limit, wanted) => turns(machine, *limit) == *wanted,
@@ -135,7 +119,6 @@ fn is_answered(global: Global, machine: &mut Machine, row: &Row) -> bool {
         Row::Put(at, bits, wanted) => put(machine, *at, *bits) == *wanted,
         Row::Press(button, wanted) => press(machine, action_of(*button)) == Ok(*wanted),
         Row::Strike(wanted) => strikes(machine, wanted),
-        Row::Tape(text) => mount_text(machine, global, text),
         Row::Mount(count, wanted) => mount_codes(machine, global, *count) == Some(*wanted),
         _ => is_performed(machine, row),
     }
@@ -168,32 +151,6 @@ const AT_REST: &[Row] = &[
     Row::Shows(0, 0, OPERATOR, 6),
 ];
 
-/// An input reads three codes, waits after them, and ends where the stop code is struck.
-const WAITING: &[Row] = &[
-    Row::Put(0, 0x0008_0000, Ok(())),
-    Row::Put(1, 0x0004_0000, Ok(())),
-    Row::Tape(b"12[16]3"),
-    Row::Press(Button::Start, Pressed::Live),
-    Row::After(Ok(Status::Going)),
-    Row::After(Ok(Status::Waiting)),
-    Row::After(Err(OrderFault::AtRest)),
-    Row::Accumulator(0x123, 1612),
-    Row::Press(Button::Stop, Pressed::Live),
-    Row::After(Ok(STOPPED)),
-];
-
-/// An input by six bits enters two codes.
-const SIX_BITS: &[Row] = &[
-    Row::Put(0, 0x0008_0000, Ok(())),
-    Row::Put(1, 0x0004_0000, Ok(())),
-    Row::Tape(b"a'"),
-    Row::Press(Button::Start, Pressed::Live),
-    Row::Press(Button::SixBit, Pressed::Live),
-    Row::After(Ok(Status::Going)),
-    Row::After(Ok(Status::Going)),
-    Row::Accumulator(0x39, 844),
-];
-
 /// The eight digits of a word struck in Manual, and two keys that are dead there.
 const KEYS: &[Row] = &[
     Row::Press(Button::Manual, Pressed::Live),
@@ -207,17 +164,6 @@ const KEYS: &[Row] = &[
     Row::Strike((18, Pressed::Live, 4)),
     Row::Strike((32, Pressed::Dead, 4)),
     Row::Strike((16, Pressed::Dead, 4)),
-];
-
-/// A print is foretold, prints, shows what it leaves, and leaves the machine at work.
-const PRINTING: &[Row] = &[
-    Row::Put(0, PRINT, Ok(())),
-    Row::Press(Button::Start, Pressed::Live),
-    Row::Ahead(451, Some(57)),
-    Row::Prints(451, Status::Going, 57),
-    Row::Printed(1, Some(57)),
-    Row::Shows(1, PRINT, Status::Going, 451),
-    Row::Rest(1, Err(RestFault::AtWork)),
 ];
 
 /// Within an order nothing shows. The calls that need a boundary are refused, a tape is handed back, and the word put is not there.
@@ -265,14 +211,11 @@ const LONG_TAPES: &[Row] = &[
 ];
 
 /// Each on a new machine.
-static STORIES: [&[Row]; 11] = [
+static STORIES: [&[Row]; 8] = [
     PARTS,
     OPENING,
     AT_REST,
-    WAITING,
-    SIX_BITS,
     KEYS,
-    PRINTING,
     WITHIN,
     END_WITHIN,
     END_AT_REST,
@@ -299,20 +242,9 @@ fn first_on_a_new_one(global: Global, rows: &[Row]) -> usize {
     }
 }
 
-/// The places of the first story and of its first row that answers otherwise; `None` where all is answered so.
-fn first_of_all(global: Global) -> Option<(usize, usize)> {
-    let mut place = 0usize;
-    for rows in &STORIES {
-        let row = first_on_a_new_one(global, rows);
-        if row != rows.len() {
-            return Some((place, row));
-        }
-        place = place.saturating_add(1);
-    }
-    None
-}
-
 #[test]
 fn calls_are_answered_at_rest_within_an_order_and_at_the_clocks_end(rt: HostRuntime) {
-    expect_eq(&rt, first_of_all(rt.alloc()), None);
+    for rows in &STORIES {
+        expect_eq(&rt, first_on_a_new_one(rt.alloc(), rows), rows.len());
+    }
 }

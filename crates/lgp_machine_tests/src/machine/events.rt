@@ -104,20 +104,17 @@ const FOUR: [Event; 4] = [
     Event::WordTime,
 ];
 
-/// Whether a machine goes to two word times before the clock's end, a play stops there, and it comes to no growth. The last three
-/// say nothing.
-fn plays_at_the_end<B: Allocator, A: Allocator>(
-    limited: &Limited<B>,
-    machine: &mut Machine<A>,
-) -> [bool; 6] {
+/// Whether a machine goes to two word times before the clock's end, and a play stops there.
+fn plays_at_the_end(global: Global) -> Option<[bool; 2]> {
+    let mut machine = with_words(global, &[(0, PRINT)])?;
     let stopped = PlayFault {
         done: 3,
         fault: TurnFault::ClockEnd,
     };
-    let rested = rest(machine, CLOCK_END - 2).is_ok();
-    limited.refuse(1);
-    let played = play(machine, &FOUR) == Err(stopped);
-    [rested, played, !limited.was_refused(), true, true, true]
+    Some([
+        rest(&mut machine, CLOCK_END - 2).is_ok(),
+        play(&mut machine, &FOUR) == Err(stopped),
+    ])
 }
 
 /// A start, and 451 word times.
@@ -129,59 +126,30 @@ fn events_of_a_print() -> [Event; 452] {
 
 /// Plays these with the first growth refused, and a word time more: whether the last word time of the print is refused and nothing
 /// is printed then nor shows, and the word time more prints.
-fn plays_without_room<B: Allocator, A: Allocator>(
-    limited: &Limited<B>,
-    machine: &mut Machine<A>,
-) -> [bool; 6] {
+fn plays_without_room(limited: &Limited<Global>) -> Option<[bool; 6]> {
+    let mut machine = with_words(limited, &[(0, PRINT)])?;
     let stopped = PlayFault {
         done: 451,
         fault: TurnFault::Memory,
     };
     limited.refuse(1);
-    [
-        play(machine, &events_of_a_print()) == Err(stopped),
+    Some([
+        play(&mut machine, &events_of_a_print()) == Err(stopped),
         limited.was_refused(),
-        printed(machine) == (0, None),
-        look(machine).is_none(),
-        play(machine, &[Event::WordTime]) == Ok(()),
-        printed(machine) == (1, Code::new(57)),
-    ]
-}
-
-fn plays<B: Allocator, A: Allocator>(
-    limited: &Limited<B>,
-    machine: &mut Machine<A>,
-    at_the_end: bool,
-) -> [bool; 6] {
-    if at_the_end {
-        return plays_at_the_end(limited, machine);
-    }
-    plays_without_room(limited, machine)
-}
-
-/// The one or the other on a new machine.
-fn played<B: Allocator, A: Allocator + Copy>(
-    limited: &Limited<B>,
-    alloc: A,
-    at_the_end: bool,
-) -> Option<[bool; 6]> {
-    limited.refuse(0);
-    match with_words(alloc, &[(0, PRINT)]) {
-        Some(mut machine) => Some(plays(limited, &mut machine, at_the_end)),
-        None => None,
-    }
+        printed(&machine) == (0, None),
+        look(&machine).is_none(),
+        play(&mut machine, &[Event::WordTime]) == Ok(()),
+        printed(&machine) == (1, Code::new(57)),
+    ])
 }
 
 #[test]
 fn a_play_stops_at_the_clocks_end_and_where_there_is_no_room(rt: HostRuntime) {
     let limited = Limited::new(rt.alloc());
-    let played = [
-        played(&limited, &limited, true),
-        played(&limited, &limited, false),
-    ];
+    let played = (plays_at_the_end(rt.alloc()), plays_without_room(&limited));
     expect_eq(
         &rt,
         (played, limited.blocks_out()),
-        ([Some([true; 6]); 2], 0),
+        ((Some([true; 2]), Some([true; 6])), 0),
     );
 }

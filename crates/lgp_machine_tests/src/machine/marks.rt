@@ -1,9 +1,8 @@
 //! Orders that change orders, whichever way they are performed, and marks to return to.
 
 use super::{
-    CLOCK_END, INPUT, PRINT, TRANSFER, address, look, mount_text, next_order, press, printed, put,
-    shown, shown_at_input, started, status_after, tape_left, tape_passed, turns, with_tape,
-    word_at,
+    CLOCK_END, PRINT, address, look, mount_text, next_order, press, printed, put, shown, started,
+    status_after, tape_left, tape_passed, turns, with_tape, word_at,
 };
 use crate::expect_eq;
 use lgp_flexo::{Code, TAPE_LIMIT, read_tape_text};
@@ -92,46 +91,6 @@ fn changed_orders_both_ways(rt: HostRuntime) {
     );
 }
 
-/// A transfer, a stop put in its place in Manual, and the machine started again: the status after each of the two orders, what
-/// becomes of each press and of the put, and what shows then.
-type Replaced = (
-    [Result<Status, OrderFault>; 2],
-    [Result<Pressed, PressFault>; 3],
-    Result<(), PutFault>,
-    Option<Look>,
-);
-
-fn transfer_and_stop(global: Global) -> Option<Replaced> {
-    let mut machine = started(global, &[(0, TRANSFER)])?;
-    let first = status_after(&mut machine);
-    let manual = press(&mut machine, Action::Mode(Mode::Manual));
-    let changed = put(&mut machine, 0, 0);
-    let normal = press(&mut machine, Action::Mode(Mode::Normal));
-    let start = press(&mut machine, Action::Start);
-    let second = status_after(&mut machine);
-    Some((
-        [first, second],
-        [manual, normal, start],
-        changed,
-        look(&machine),
-    ))
-}
-
-#[test]
-fn a_put_word_is_performed(rt: HostRuntime) {
-    let stopped = Status::Halted(Cause::Stop);
-    expect_eq(
-        &rt,
-        transfer_and_stop(rt.alloc()),
-        Some((
-            [Ok(Status::Going), Ok(stopped)],
-            [Ok(Pressed::Live); 3],
-            Ok(()),
-            shown(1, 0, 0, stopped, 131),
-        )),
-    );
-}
-
 /// The mark of a machine at a boundary.
 fn mark<A: Allocator>(machine: &Machine<A>) -> Option<Mark> {
     machine.mark()
@@ -148,56 +107,6 @@ fn return_to<A: Allocator>(
         return None;
     }
     Some(machine.return_to(&mark, change))
-}
-
-/// What shows, and how many codes have passed the reader and are left.
-type Reading = (Option<Look>, Option<usize>, Option<usize>);
-
-fn reading<A: Allocator>(machine: &Machine<A>) -> Reading {
-    (look(machine), tape_passed(machine), tape_left(machine))
-}
-
-/// Before the input of five codes.
-fn before_input() -> Reading {
-    (shown_at_input(), Some(0), Some(5))
-}
-
-/// After it.
-fn after_input() -> Reading {
-    let look = shown(2, 0x123, 0x0004_0000, Status::Going, 1996);
-    (look, Some(5), Some(0))
-}
-
-/// The order before an input, the input, its tape going back, and the same input again: the status after each, whether the tape
-/// went back, and what shows before the input, after it, after the way back and after the second.
-type Inputs = ([Result<Status, OrderFault>; 3], Option<bool>, [Reading; 4]);
-
-/// Performs an order and then an input twice, going back between them.
-fn input_twice(global: Global) -> Option<Inputs> {
-    let mut machine = with_tape(global, &INPUT, b"12[16]3'")?;
-    let started = status_after(&mut machine);
-    let at_input = mark(&machine);
-    let before = reading(&machine);
-    let first = status_after(&mut machine);
-    let read = reading(&machine);
-    let is_back = return_to(&mut machine, at_input, None);
-    let back = reading(&machine);
-    let second = status_after(&mut machine);
-    Some((
-        [started, first, second],
-        is_back,
-        [before, read, back, reading(&machine)],
-    ))
-}
-
-#[test]
-fn the_tape_goes_back(rt: HostRuntime) {
-    let shows = [before_input(), after_input(), before_input(), after_input()];
-    expect_eq(
-        &rt,
-        input_twice(rt.alloc()),
-        Some(([Ok(Status::Going); 3], Some(true), shows)),
-    );
 }
 
 /// What shows, how many codes are printed, and the first one.
@@ -228,7 +137,11 @@ fn print_and_back(global: Global) -> Option<Print> {
     let _ = next_order(&mut machine);
     let after = paper(&machine);
     let further = mark(&machine);
-    let is_back = return_to(&mut machine, first, None);
+    let is_back = return_to(
+        &mut machine,
+        first,
+        Some((address(0), Word::of_bits(PRINT))),
+    );
     let back = paper(&machine);
     let is_further = return_to(&mut machine, further, None);
     Some((
@@ -249,31 +162,6 @@ fn a_printed_code_goes_back(rt: HostRuntime) {
         &rt,
         print_and_back(rt.alloc()),
         Some(([Some(true), Some(false)], papers)),
-    );
-}
-
-/// Whether the first order came to its end, and whether the machine then went back to it, with the changed order as it was; and
-/// what shows three orders after the first time and three after the second.
-type Again = (bool, Option<bool>, [After; 2]);
-
-fn run_again(global: Global, in_one_call: bool) -> Option<Again> {
-    let mut machine = started(global, &REPLACED)?;
-    let begun = order(&mut machine, in_one_call);
-    let mark = mark(&machine);
-    let first = after_orders(&mut machine, 3, 1, in_one_call);
-    let change = Some((address(1), Word::of_bits(0x000d_0004)));
-    let is_back = return_to(&mut machine, mark, change);
-    let second = after_orders(&mut machine, 3, 1, in_one_call);
-    Some((begun, is_back, [first, second]))
-}
-
-#[test]
-fn an_order_is_read_again_after_going_back(rt: HostRuntime) {
-    let look = shown(0, 0, 0x000a_0000, Status::Going, 204);
-    expect_eq(
-        &rt,
-        [run_again(rt.alloc(), false), run_again(rt.alloc(), true)],
-        [Some((true, Some(true), [Some((look, 0x000a_0000)); 2])); 2],
     );
 }
 

@@ -1,13 +1,9 @@
-//! A machine with a long tape and many printed codes, its copy, and a copy within an activity.
+//! A machine with a long tape and many printed codes, and its copy.
 
-use super::{
-    PRINT, TRANSFER, look, mount_codes, next_order, printed, shown, start, tape_left, turns,
-    with_words, within_an_order,
-};
+use super::{PRINT, TRANSFER, mount_codes, next_order, printed, start, tape_left, with_words};
 use crate::expect_eq;
 use lgp_flexo::TAPE_LIMIT;
-use lgp_machine::{Look, Machine, MountFault, TurnFault};
-use lgp_table::Status;
+use lgp_machine::{Machine, MountFault};
 use std::alloc::{Allocator, Global};
 
 /// A print, and a transfer back to it.
@@ -61,36 +57,5 @@ fn a_long_tape_and_many_codes_are_copied(rt: HostRuntime) {
         &rt,
         mounted_and_printed(rt.alloc()),
         Some((Some(Ok(())), true, 20_000, [sizes; 2])),
-    );
-}
-
-/// How many word times there are up to the end of the activity, and what shows then.
-type Turned = ((u64, Result<bool, TurnFault>), Option<Look>);
-
-fn turned<A: Allocator>(machine: &mut Machine<A>) -> Turned {
-    (turns(machine, 100), look(machine))
-}
-
-/// The same of a copy; `None` where it is refused.
-fn turned_copy<A: Allocator + Clone>(machine: &Machine<A>) -> Option<Turned> {
-    let mut copy = machine.copy().ok()?;
-    Some(turned(&mut copy))
-}
-
-/// The same of a copy and then of the machine.
-fn turned_twice(global: Global) -> Option<[Option<Turned>; 2]> {
-    let mut machine = within_an_order(global)?;
-    let copied = turned_copy(&machine);
-    Some([copied, Some(turned(&mut machine))])
-}
-
-/// The transfer takes 67 word times, and ends 66 after the first one.
-#[test]
-fn a_copy_within_an_activity_ends_it(rt: HostRuntime) {
-    let look = shown(0, 0, TRANSFER, Status::Going, 67);
-    expect_eq(
-        &rt,
-        turned_twice(rt.alloc()),
-        Some([Some(((66, Ok(true)), look)); 2]),
     );
 }

@@ -1,11 +1,12 @@
 //! A processor on a bench: its state before worked orders and after each.
 
+use crate::{at, word};
 use lgp_drum::Drum;
 use lgp_flexo::{Code, read_tape_text};
 use lgp_phases::{Ahead, Outcome, Processor, Progress, ahead};
 use lgp_reader::Reader;
 use lgp_table::{Mode, Panel, Status, Switches};
-use lgp_word::{Address, Op, Word, read_digits, write_digits};
+use lgp_word::{Address, Op, write_digits};
 use std::alloc::Allocator;
 use std::marker::Model;
 
@@ -39,18 +40,14 @@ pub struct Case<'a, 'b> {
     pub stored: Cell,
 }
 
-/// The state of a machine after an activity.
-#[derive(Clone, Copy, Debug, PartialEq, Eq)]
-pub struct End {
-    pub clock: u64,
-    pub status: Status,
-    pub counter: [u8; 4],
-    pub register: [u8; 8],
-    pub accumulator: u32,
-    pub printed: Option<u8>,
-    pub is_on: bool,
-    pub left: usize,
-}
+/// The state of a machine after an activity: clock, status, counter, register, accumulator and tape.
+pub type End = (u64, Status, [u8; 4], [u8; 8], u32, Taped);
+
+/// The number of the code that an activity printed; then whether the reader is on, and how many codes are left.
+pub type Taped = (Option<u8>, bool, usize);
+
+/// Nothing printed, the reader off, and no code left.
+pub const NO_TAPE: Taped = (None, false, 0);
 
 /// Every switch is up.
 pub const UP: Switches = Switches {
@@ -75,28 +72,6 @@ pub const CASE: Case = Case {
     ends: &[],
     stored: (*b"6363", *b"00000000"),
 };
-
-/// The same machine before its next order, but for the clock and the register.
-pub const END: End = End {
-    clock: 0,
-    status: Status::Going,
-    counter: *b"0001",
-    register: *b"00000000",
-    accumulator: 0,
-    printed: None,
-    is_on: false,
-    left: 0,
-};
-
-/// The word of these digits, or 0 where they are none.
-fn word(digits: &[u8; 8]) -> Word {
-    read_digits(digits.as_slice()).unwrap_or_default()
-}
-
-/// The address of this text, or 0000 where it is none.
-pub fn at(text: &[u8; 4]) -> Address {
-    Address::parse(text.as_slice()).unwrap_or_default()
-}
 
 /// A drum with these words.
 fn drum_of<A: Allocator + Copy>(alloc: A, cells: &[Cell]) -> Option<Drum<A>> {
@@ -320,16 +295,18 @@ impl<A: Allocator> Bench<A> {
 
     /// The state of the machine after an activity of this outcome.
     fn end(&self, outcome: &Outcome) -> End {
-        End {
-            clock: self.clock,
-            status: outcome.status,
-            counter: self.panel.counter.print(),
-            register: write_digits(self.panel.register),
-            accumulator: self.panel.accumulator,
-            printed: outcome.printed.map(Code::number),
-            is_on: self.reader.is_on(),
-            left: self.reader.left().len(),
-        }
+        (
+            self.clock,
+            outcome.status,
+            self.panel.counter.print(),
+            write_digits(self.panel.register),
+            self.panel.accumulator,
+            (
+                outcome.printed.map(Code::number),
+                self.reader.is_on(),
+                self.reader.left().len(),
+            ),
+        )
     }
 }
 
@@ -365,12 +342,4 @@ pub fn perform_all<A: Allocator + Copy>(alloc: A, case: &Case) -> Performed {
     perform(alloc, case, Way::WordTimes)?;
     perform(alloc, case, Way::OneCall)?;
     perform(alloc, case, Way::Short)
-}
-
-/// Performs the activities of each case in each way.
-pub fn perform_each<A: Allocator + Copy>(alloc: A, cases: &[Case]) -> Performed {
-    for case in cases {
-        perform_all(alloc, case)?;
-    }
-    Ok(())
 }

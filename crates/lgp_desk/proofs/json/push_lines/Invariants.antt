@@ -7,6 +7,6 @@ abbrev pub invariant-loop-line : goal.invariant-loop-line
 invariant-loop-line g l = record {
   can : (goal.iterator-loop-line g).can_next l.line-iterator;
   finite : (goal.iterator-loop-line g).is_finite l.line-iterator;
-  text : l.text.items ++ json_lines l.fn.keyed l.first l.line-iterator
-      ≡ l.fn.text.items ++ json_lines l.fn.keyed true (map without_terminator (lines_of l.fn.reply));
+  text : l.text.items ++ json_lines l.fn.objects l.first l.line-iterator
+      ≡ l.fn.text.items ++ json_lines l.fn.objects true (map without_terminator (lines_of l.fn.reply));
 }

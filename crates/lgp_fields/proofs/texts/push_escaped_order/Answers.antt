@@ -1,12 +1,11 @@
-use Rattle.std.proofs.Common.{[], ◌∷◌, arith, codes, cond}
+use Rattle.std.proofs.Common.{arith}
 use Rattle.std.proofs.lemmas.Grind.{common_steps}
 use Rattle.lgp_word.specs.Digits.{address_digits}
-use Rattle.lgp_fields.specs.Seen.{order_text}
-use Rattle.lgp_fields.proofs.EscapedLemmas.{escaped-three}
+use Rattle.lgp_fields.specs.Seen.{label_text, order_text}
+use Rattle.lgp_fields.proofs.EscapedLemmas.{escaped-two}
 use Rattle.lgp_fields.proofs.texts.push_escaped_order.Goals as goal
 
 pub returns : goal.returns
-unfolding order_text
 returns g c =
-    let e = escaped-three c.args.text.now.items (cond c.args.minus (codes "-") []) (c.args.letter ∷ 32 ∷ []) (address_digits c.args.address) in
+    let e = escaped-two c.args.text.now.items (order_text c.args.minus c.args.letter c.args.address) (label_text c.args.label.now) in
     grind (arith, common_steps)

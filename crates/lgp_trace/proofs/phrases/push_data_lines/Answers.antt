@@ -1,9 +1,0 @@
-use Rattle.std.proofs.Common.{arith}
-use Rattle.std.proofs.lemmas.Grind.{common_steps}
-use Rattle.lgp_trace.proofs.phrases.push_data_lines.Goals as goal
-
-pub loop-line-preserved : goal.loop-line-preserved
-loop-line-preserved g c = grind (arith, common_steps)
-
-pub returns : goal.returns
-returns g c = grind (arith, common_steps)
