@@ -248,30 +248,11 @@ fn growths_of_full_drum(global: Global) -> Option<Texts> {
     growths_of_texts(global, &drum)
 }
 
-/// The lengths of both texts, whether each call had its growths, and how many blocks are out.
-fn seen_of((both, blocks): ([Growths; 2], u64)) -> ([usize; 2], [bool; 4], u64) {
-    let [dumped, deposited] = both;
-    let (dump, deposits) = (dumped.1, deposited.1);
-    (
-        [dumped.0, deposited.0],
-        [
-            dump[0] >= 1,
-            dump[1] >= 1,
-            deposits[0] > 1,
-            deposits[1] == 1,
-        ],
-        blocks,
-    )
-}
-
 /// A line of a dump has 14 bytes, and a deposit 20.
 #[test]
 fn each_growth_over_a_full_drum_is_refused(rt: HostRuntime) {
-    let found = match growths_of_full_drum(rt.alloc()) {
-        Some(found) => seen_of(found),
-        None => ([0; 2], [false; 4], 0),
-    };
-    expect_eq(&rt, found, ([4096 * 14, 4096 * 20], [true; 4], 0));
+    let wanted = ([4096 * 14, 4096 * 20], [[true; 2]; 2], 0);
+    expect_eq(&rt, growths_of_full_drum(rt.alloc()), Some(wanted));
 }
 
 /// Whether the text of a tape of a hundred zeros has more growths than one, its bytes and the tape read from these have one each, the

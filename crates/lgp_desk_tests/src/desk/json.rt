@@ -44,7 +44,7 @@ static ANSWERED: [Row; 11] = [
         b"json cost 0000\njson panel\n",
         b"{\"line\":\"json cost 0000\",\"reply\":[{\"address\":\"0000\",\"label\":null,\"order\":\"z 0000\",\"find\":64,\"take\":1,\"seek\":1,\"act\":1,\"sum\":67,\"next\":\"0001\",\"next-label\":null,\"next-find\":6}],\"refused\":false}\n\
         {\"line\":\"json panel\",\"reply\":[\"? 1 Form: json LINE, where LINE is one for programs, such as state-data\"],\"refused\":true}\n",
-        1,
+        0,
     ),
     (
         Manner::Json,
