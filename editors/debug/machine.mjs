@@ -220,7 +220,7 @@ export class Machine {
 
     #keyedIn(work) {
         const before = this.state();
-        if (!["orders", "start", "normal start"].includes(before.get("way"))) throw new Refused(before.get("way-sentence"));
+        if (!["orders", "start", "normal-start"].includes(before.get("way"))) throw new Refused(before.get("way-sentence"));
         work(before);
         this.does(`press ${before.get("mode")}`);
         if (before.get("way") === "orders") this.does("press start");

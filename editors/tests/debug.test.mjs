@@ -145,6 +145,8 @@ test("words, switches, registers, counter, mode and tape are set as the console 
     assert.match(await set("accumulator", "= 7"), /^0000000q/);
     assert.match(await set("counter", "three"), /^0005  three/);
     assert.match((await client.scope("Registers")).of("accumulator").value, /^0000000q/);
+    assert.equal(await set("mode", "manual"), "manual");
+    assert.match(await set("accumulator", "= 9"), /^00000012/);
     assert.equal(await set("mode", "oneop"), "oneop");
     assert.match(await client.refused("setVariable", { variablesReference: registers.variablesReference, name: "clock", value: "0" }), /^the console sets counter, accumulator, register, mode and the switches, not clock$/);
     assert.match(await client.refused("setVariable", { variablesReference: registers.variablesReference, name: "accumulator", value: "00000001" }), /^\? 1 Form/);

@@ -1,3 +1,4 @@
 pub mod EscapedLemmas
 pub mod PartLemmas
 pub mod ReadBackLaws
+pub mod PieceLemmas

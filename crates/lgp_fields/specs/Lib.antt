@@ -3,3 +3,4 @@ pub mod Seen
 pub mod Escaped
 pub mod Printed
 pub mod ReadBack
+pub mod Pieces

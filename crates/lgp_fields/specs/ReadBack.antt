@@ -1,8 +1,9 @@
 -- Part of the public promise: replies for programs read back. The key of a line is what comes before
 -- the first blank, and its value what comes after it; an escaped text has its bytes again, in a line
 -- and in a string of JSON.
-use Rattle.std.specs.Prelude.{ℕ, ◌+◌, ◌-◌, ◌*◌, ◌==◌, not, Bool, if◌then◌else◌, nat_lt, List, [], ◌∷◌, drop}
+use Rattle.std.specs.Prelude.{ℕ, ◌+◌, ◌-◌, ◌*◌, ◌==◌, not, Bool, true, false, if◌then◌else◌, nat_lt, List, [], ◌∷◌, drop}
 use Rattle.std.specs.List.{list_all}
+use Rattle.lgp_fields.specs.Plain.{Plain, Nothing}
 
 unfoldable pub key_of : List ℕ → List ℕ
 key_of [] = []
@@ -14,6 +15,11 @@ value_of (b ∷ more) = if b == 32 then more else value_of more
 
 abbrev pub has_no_blank : List ℕ → Bool
 has_no_blank key = list_all (λ b. not (b == 32)) key
+
+-- whether a value has a line
+abbrev pub has_text : Plain → Bool
+has_text Nothing = false
+has_text value = true
 
 abbrev pub are_bytes : List ℕ → Bool
 are_bytes text = list_all (λ b. nat_lt b 256) text

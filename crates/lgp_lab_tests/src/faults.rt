@@ -4,6 +4,10 @@ use crate::expect_eq;
 use lgp_assembler::{AssembleError, assemble};
 use lgp_debugger::{HitFault, IdleFault, RuleFault, RunFault, RunRefusal, StepFault, WatchFault};
 use lgp_exchange::{BytesFault, ExaminedFault};
+use lgp_fields::laws::{
+    fields_are_read_back, lines_are_read_back, numbers_are_read_back, objects_are_read_back,
+    texts_are_read_back,
+};
 use lgp_flexo::TextFault;
 use lgp_fraction::FractionFault;
 use lgp_history::BackFault;
@@ -224,4 +228,13 @@ fn told(alloc: Global) -> Option<bool> {
 #[test]
 fn faults_have_their_texts(rt: HostRuntime) {
     expect_eq(&rt, told(rt.alloc()), Some(true));
+}
+
+#[test]
+fn the_laws_do_nothing(_rt: HostRuntime) {
+    texts_are_read_back();
+    numbers_are_read_back();
+    lines_are_read_back();
+    objects_are_read_back();
+    fields_are_read_back();
 }
