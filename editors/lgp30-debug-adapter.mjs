@@ -4,7 +4,7 @@ import { readFile } from "node:fs/promises";
 import { join, resolve } from "node:path";
 import { DebugAdapter } from "./debug/adapter.mjs";
 import { serve } from "./serve.mjs";
-import { Desk } from "../page/module/desk.mjs";
+import { Desk } from "../page/module/monitor_session.mjs";
 import { ModuleEngine } from "../page/module/engines.mjs";
 import { Shelf, stateFolder } from "../page/module/shelf.mjs";
 import { Typist } from "../page/module/typist.mjs";

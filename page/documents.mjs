@@ -4,7 +4,7 @@ import { existsSync, readFileSync, readdirSync } from "node:fs";
 import { join } from "node:path";
 import { remarksOf, sourceIn, tableIn } from "./examples.mjs";
 import { lessonIn } from "./lessons.mjs";
-import { LESSONS } from "./steps.mjs";
+import { LESSONS } from "./lesson_steps.mjs";
 import { sentencesIn, taskIn } from "./task.mjs";
 import { LANGUAGES } from "./words.mjs";
 

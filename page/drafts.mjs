@@ -1,6 +1,6 @@
 // What stands in the fields of the page, by their names: it stays when the page is laid anew, and is kept with the work that it belongs to.
 
-import { Earlier } from "./earlier.mjs";
+import { Earlier } from "./line_history.mjs";
 
 /** Texts of fields. Dispatches `change` when one is written. */
 export class Drafts extends EventTarget {

@@ -1,6 +1,6 @@
 // Files that are opened as scripts, and links that open one.
 import { commandIn, isIdle, linesIn } from "./lines.mjs";
-import { ROOM } from "./room.mjs";
+import { ROOM } from "./memory_budget.mjs";
 
 /** Scripts that a link may hold: some browsers take no longer addresses. */
 const LONGEST_LINK = 30_000;

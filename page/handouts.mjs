@@ -6,7 +6,7 @@ import { fileURLToPath } from "node:url";
 import { SECTORS, positionOf } from "./addresses.mjs";
 import { documentOf, lackingIn } from "./documents.mjs";
 import { lessonIn } from "./lessons.mjs";
-import { solved } from "./solved.mjs";
+import { solved } from "./lesson_solver.mjs";
 import { LANGUAGES } from "./words.mjs";
 
 const documents = join(dirname(fileURLToPath(import.meta.url)), "../docs/lessons");

@@ -1,5 +1,5 @@
 // Runs are done in portions, so that Stop is heard, and so that no more is printed than memory holds and a reader wants.
-import { ROOM } from "./room.mjs";
+import { ROOM } from "./memory_budget.mjs";
 
 /** The orders of a first portion, the runs of a first one by `operate`, the most orders, and how long a portion should take. */
 const PORTION = { first: 2000, starts: 100, most: 50_000_000, milliseconds: 50 };

@@ -7,7 +7,7 @@
 // and the status alone says whether it would be.
 import { openSync, readFileSync, statSync } from "node:fs";
 import { isatty } from "node:tty";
-import { Desk } from "./desk.mjs";
+import { Desk } from "./monitor_session.mjs";
 import { ModuleEngine } from "./engines.mjs";
 import { readAll, readSome, writeAll } from "./files.mjs";
 import { bytesFrom, endedText, hasLine, isLonger, linesIn, textFrom } from "./lines.mjs";

@@ -1,5 +1,5 @@
 // Who types at a desk what files hold, for a line that names one.
-import { LONG_TAPE, MOUNT_LIMIT } from "./desk.mjs";
+import { LONG_TAPE, MOUNT_LIMIT } from "./monitor_session.mjs";
 import { FileTrouble, keepFile, readFile } from "./files.mjs";
 import { LINE_LIMIT, endedText, frontOf, hasLine, isLonger, linesIn, withoutReturn, wordsOf } from "./lines.mjs";
 import { codesOf, isRefusal, refusalOf, tapeTextOf } from "./replies.mjs";

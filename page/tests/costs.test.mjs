@@ -1,7 +1,7 @@
 // The sentences of the ring of costs, over replies as the monitor has them.
 import assert from "node:assert/strict";
 import { test } from "node:test";
-import { costsIn } from "../looks.mjs";
+import { costsIn } from "../queries.mjs";
 import { replyOf } from "../module/tests/told_as_json.mjs";
 import { costsText } from "../views/costs.mjs";
 import { LANGUAGES, textsIn } from "../words.mjs";

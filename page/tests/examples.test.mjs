@@ -6,7 +6,7 @@ import { test } from "node:test";
 import { fileURLToPath } from "node:url";
 import { remarksBelow, scriptsBelow, tableOf } from "../documents.mjs";
 import { remarksOf, remarksOfSource, sourceIn, tableIn, withRemarks } from "../examples.mjs";
-import { Laboratory } from "../laboratory.mjs";
+import { Laboratory } from "../controller.mjs";
 import { commentsIn, headOf, linesIn } from "../lines.mjs";
 import { answerScript, bytesOf, textOf } from "../module/session.mjs";
 import { LANGUAGES } from "../words.mjs";

@@ -4,7 +4,7 @@ import { dirname, join } from "node:path";
 import { fileURLToPath } from "node:url";
 import { Drive } from "../drive.mjs";
 import { Exhibit } from "../exhibit.mjs";
-import { Laboratory } from "../laboratory.mjs";
+import { Laboratory } from "../controller.mjs";
 import { Player } from "../player.mjs";
 import { GAMES } from "../views/game.mjs";
 import { ModuleLink } from "../module_link.mjs";

@@ -1,7 +1,7 @@
 // Files and links, and lines that come back, without a browser.
 import assert from "node:assert/strict";
 import { test } from "node:test";
-import { Earlier, pasted } from "../earlier.mjs";
+import { Earlier, pasted } from "../line_history.mjs";
 import { linkOf, unopened } from "../files.mjs";
 import { askedIn } from "../opening.mjs";
 

@@ -4,7 +4,7 @@ import { existsSync, readFileSync } from "node:fs";
 import { dirname, join } from "node:path";
 import { test } from "node:test";
 import { fileURLToPath } from "node:url";
-import { Laboratory } from "../laboratory.mjs";
+import { Laboratory } from "../controller.mjs";
 import { linesIn } from "../lines.mjs";
 import { GAMES, asksOf, numberIn, saidOn, standsIn } from "../views/game.mjs";
 import { textsIn } from "../words.mjs";

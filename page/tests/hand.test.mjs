@@ -4,10 +4,10 @@ import { existsSync, readFileSync } from "node:fs";
 import { dirname, join } from "node:path";
 import { test } from "node:test";
 import { fileURLToPath } from "node:url";
-import { GAMES, Game, PROGRAMS, roundIn } from "../faster.mjs";
-import { Laboratory } from "../laboratory.mjs";
+import { GAMES, Game, PROGRAMS, roundIn } from "../placing_game.mjs";
+import { Laboratory } from "../controller.mjs";
 import { ModuleLink } from "../module_link.mjs";
-import { setUpFor } from "../steps.mjs";
+import { setUpFor } from "../lesson_steps.mjs";
 
 globalThis.document ??= {};
 const { distanceOf } = await import("../views/hand.mjs");

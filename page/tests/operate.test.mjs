@@ -4,10 +4,10 @@ import assert from "node:assert/strict";
 import { existsSync } from "node:fs";
 import { test } from "node:test";
 import { fileURLToPath } from "node:url";
-import { Laboratory } from "../laboratory.mjs";
+import { Laboratory } from "../controller.mjs";
 import { linesIn, setUp } from "../lines.mjs";
 import { startsOf } from "../module/replies.mjs";
-import { ROOM, Room } from "../room.mjs";
+import { ROOM, Room } from "../memory_budget.mjs";
 import { ModuleLink } from "../module_link.mjs";
 
 const module = fileURLToPath(new URL("../module/lgp_c_region.wasm", import.meta.url));

@@ -5,7 +5,7 @@ import { dirname, join } from "node:path";
 import { test } from "node:test";
 import { fileURLToPath } from "node:url";
 import { SECTORS, sectorOf } from "../addresses.mjs";
-import { Laboratory } from "../laboratory.mjs";
+import { Laboratory } from "../controller.mjs";
 import { Checker } from "../language.mjs";
 import { accountsOf, panelOf, reportOf } from "../module/replies.mjs";
 import { ModuleLink } from "../module_link.mjs";

@@ -5,7 +5,7 @@ import { dirname, join } from "node:path";
 import { test } from "node:test";
 import { fileURLToPath } from "node:url";
 import { trackOf } from "../addresses.mjs";
-import { Laboratory } from "../laboratory.mjs";
+import { Laboratory } from "../controller.mjs";
 import { drumRowsOf, heldOf, linesOf, originsOf, paperOf, rulesOf, toldOf } from "../module/replies.mjs";
 import { ModuleLink } from "../module_link.mjs";
 

@@ -23,7 +23,7 @@ import { visitsOfEditor } from "./visits_editor.mjs";
 import { visitsOfExamples } from "./visits_examples.mjs";
 import { visitsOfGames } from "./visits_game.mjs";
 import { visitsOfHand } from "./visits_hand.mjs";
-import { visitsOfKept } from "./visits_kept.mjs";
+import { visitsOfKept } from "./visits_storage.mjs";
 import { visitsOfKiosk } from "./visits_kiosk.mjs";
 import { visitsOfPeople } from "./visits_people.mjs";
 import { visitsOfPoints } from "./visits_points.mjs";

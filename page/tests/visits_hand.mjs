@@ -4,10 +4,10 @@ import { readFileSync } from "node:fs";
 import { dirname, join } from "node:path";
 import { fileURLToPath } from "node:url";
 import { SECTORS, positionOf, sectorAt, sectorOf } from "../addresses.mjs";
-import { GAMES, PROGRAMS } from "../faster.mjs";
-import { Laboratory } from "../laboratory.mjs";
+import { GAMES, PROGRAMS } from "../placing_game.mjs";
+import { Laboratory } from "../controller.mjs";
 import { ModuleLink } from "../module_link.mjs";
-import { setUpFor } from "../steps.mjs";
+import { setUpFor } from "../lesson_steps.mjs";
 import { disorder, faint, nameless, noteMouse, unreached } from "./access.mjs";
 import { isAttract, keptIn } from "./visits_kiosk.mjs";
 

@@ -4,7 +4,7 @@ import assert from "node:assert/strict";
 import { dirname, join } from "node:path";
 import { fileURLToPath } from "node:url";
 import { lessonsBelow } from "../documents.mjs";
-import { solved } from "../solved.mjs";
+import { solved } from "../lesson_solver.mjs";
 import { textsIn } from "../words.mjs";
 import { hiddenTexts, numbersOf, unhit, unseen } from "./seen.mjs";
 

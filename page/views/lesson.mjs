@@ -1,6 +1,6 @@
 // A lesson as steps, of which the one in work is seen: one that is done is ticked off, by what the machine shows or by an answer that is compared with it.
-import { bringTo } from "../done.mjs";
-import { LESSONS } from "../steps.mjs";
+import { bringTo } from "../lesson_solutions.mjs";
+import { LESSONS } from "../lesson_steps.mjs";
 import { button, h, part, tell } from "./dom.mjs";
 import { makeLineBox } from "./writing.mjs";
 

@@ -1,6 +1,6 @@
 // What the reader should know: a refusal or a word of the page's own, and what can be done about it; the source that is open; and the lines of
 // laboratories that were lost.
-import { LESSONS } from "../steps.mjs";
+import { LESSONS } from "../lesson_steps.mjs";
 import { counted } from "../words.mjs";
 import { button, h } from "./dom.mjs";
 import { ruleText } from "./listing.mjs";

@@ -1,5 +1,5 @@
 // What is written beside the source: lines for the monitor with their replies, and the lines of a script.
-import { pasted } from "../earlier.mjs";
+import { pasted } from "../line_history.mjs";
 import { counted } from "../words.mjs";
 import { button, guarded, h, part, showLive } from "./dom.mjs";
 

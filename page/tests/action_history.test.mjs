@@ -1,7 +1,7 @@
 import assert from "node:assert/strict";
 import { test } from "node:test";
 import { addressIn, addressOf, isAmong, numberOf, positionOf, windowAt } from "../addresses.mjs";
-import { Deeds } from "../deeds.mjs";
+import { Deeds } from "../action_history.mjs";
 import { headOf, linesIn, setUp } from "../lines.mjs";
 import { addressOf as placeOf, askedIn, inLanguage } from "../opening.mjs";
 import { nextPortion, ordersUntilAsked } from "../portions.mjs";

@@ -5,11 +5,11 @@ import { dirname, join } from "node:path";
 import { test } from "node:test";
 import { fileURLToPath } from "node:url";
 import { Drive } from "../drive.mjs";
-import { Laboratory } from "../laboratory.mjs";
+import { Laboratory } from "../controller.mjs";
 import { ModuleLink } from "../module_link.mjs";
 import { Player } from "../player.mjs";
-import { setUpFor } from "../steps.mjs";
-import { Turning } from "../turning.mjs";
+import { setUpFor } from "../lesson_steps.mjs";
+import { Turning } from "../hand_turning.mjs";
 
 const top = join(dirname(fileURLToPath(import.meta.url)), "../..");
 const module = join(top, "page/module/lgp_c_region.wasm");

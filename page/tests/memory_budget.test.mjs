@@ -4,7 +4,7 @@ import { existsSync, readFileSync } from "node:fs";
 import { dirname, join } from "node:path";
 import { test } from "node:test";
 import { fileURLToPath } from "node:url";
-import { ROOM } from "../room.mjs";
+import { ROOM } from "../memory_budget.mjs";
 import { counted } from "../words.mjs";
 import { Session, compiled } from "../module/session.mjs";
 

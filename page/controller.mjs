@@ -1,13 +1,13 @@
 // The controller. All that the page does is lines to the monitor, and all that it knows are their replies.
 import { PLACES, addressIn, addressOf, addressesFrom, isAmong, numberOf, trackOf, windowAt } from "./addresses.mjs";
-import { Deeds } from "./deeds.mjs";
-import { Known } from "./known.mjs";
+import { Deeds } from "./action_history.mjs";
+import { Known } from "./word_cache.mjs";
 import { commandIn, commentsIn, isIdle, linesIn, plainOf, setUp } from "./lines.mjs";
-import { Looks, SHOWN, costsIn, rowsIn } from "./looks.mjs";
+import { Looks, SHOWN, costsIn, rowsIn } from "./queries.mjs";
 import * as replies from "./module/replies.mjs";
 import { NoMemory } from "./module/session.mjs";
 import { Run, questionOf, startsText } from "./portions.mjs";
-import { ROOM, Room } from "./room.mjs";
+import { ROOM, Room } from "./memory_budget.mjs";
 import { Transcript } from "./transcript.mjs";
 
 const ACCOUNTS_KEPT = 400;

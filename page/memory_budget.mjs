@@ -1,6 +1,6 @@
 // How much of the module's memory a session may take. The module is not asked for its free room: what is counted is what takes the memory,
 // the bytes of the lines that its transcript keeps, and the codes that it has printed. The bounds leave room to spare for what `transcript`,
-// `printed`, a source and a told run need for a moment; page/tests/room.test.mjs fills a session up to them, and asks all that.
+// `printed`, a source and a told run need for a moment; page/tests/memory_budget.test.mjs fills a session up to them, and asks all that.
 
 import { commandIn } from "./lines.mjs";
 

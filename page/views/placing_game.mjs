@@ -1,7 +1,7 @@
 // Make it faster: a game of two minutes with the drum. A loop goes round, and its words are carried to sectors where the machine waits less. What a placing costs are sums of the monitor's
 // numbers; the line on the drum and the bars are drawn only where their sum is that.
 import { SECTORS, inTwoDigits, positionOf, sectorAt, sectorOf } from "../addresses.mjs";
-import { GAMES, Game } from "../faster.mjs";
+import { GAMES, Game } from "../placing_game.mjs";
 import { timesOf } from "../placing.mjs";
 import { counted } from "../words.mjs";
 import { button, guarded, h, refill, s, showLive, tell } from "./dom.mjs";

@@ -3,10 +3,10 @@ import { readFileSync } from "node:fs";
 import { dirname, join } from "node:path";
 import { fileURLToPath } from "node:url";
 import { documentOf } from "./documents.mjs";
-import { DEEDS } from "./done.mjs";
-import { Laboratory } from "./laboratory.mjs";
+import { DEEDS } from "./lesson_solutions.mjs";
+import { Laboratory } from "./controller.mjs";
 import { lessonIn } from "./lessons.mjs";
-import { LESSONS, setUpFor } from "./steps.mjs";
+import { LESSONS, setUpFor } from "./lesson_steps.mjs";
 import { ModuleLink } from "./module_link.mjs";
 
 const top = join(dirname(fileURLToPath(import.meta.url)), "..");
