@@ -1,24 +1,24 @@
-// What was done, as far as it can be gone back over: the orders and the deeds of the operator between them. What `back` has undone is
+// What was done, as far as it can be gone back over: the orders and the actions of the operator between them. What `back` has undone is
 // kept as well, so that it can be performed again.
 
-/** Splits so many orders off the end of a list of deeds: what stays, and what goes. A deed is a line, or a number of orders. */
-function split(deeds, orders) {
+/** Splits so many orders off the end of a list of actions: what stays, and what goes. An action is a line, or a number of orders. */
+function split(actions, orders) {
     const gone = [];
-    const stays = [...deeds];
+    const stays = [...actions];
     let missing = orders;
     while (missing > 0 && stays.length > 0) {
-        const deed = stays.pop();
-        if (deed.orders > missing) stays.push({ orders: deed.orders - missing });
-        gone.unshift(deed.orders > missing ? { orders: missing } : deed);
-        missing -= Math.min(missing, deed.orders);
+        const action = stays.pop();
+        if (action.orders > missing) stays.push({ orders: action.orders - missing });
+        gone.unshift(action.orders > missing ? { orders: missing } : action);
+        missing -= Math.min(missing, action.orders);
     }
     return { stays, gone };
 }
 
-const sum = (deeds) => deeds.reduce((total, deed) => total + deed.orders, 0);
+const sum = (actions) => actions.reduce((total, action) => total + action.orders, 0);
 
-/** The deeds done and the deeds undone. */
-export class Deeds {
+/** The actions done and the actions undone. */
+export class ActionHistory {
     #done = [];
     #undone = [];
     #forgotten = 0;
@@ -28,7 +28,7 @@ export class Deeds {
         return sum(this.#done);
     }
 
-    /** How many orders were done since the operator's last deed. */
+    /** How many orders were done since the operator's last action. */
     get unbroken() {
         return this.#done.at(-1)?.orders ?? 0;
     }
@@ -43,7 +43,7 @@ export class Deeds {
         return this.#forgotten;
     }
 
-    /** Orders were performed: new ones, which leave nothing ahead, or again those that come next. Two runs on end become one deed. */
+    /** Orders were performed: new ones, which leave nothing ahead, or again those that come next. Two runs on end become one action. */
     orders(count, isAgain = false) {
         if (count === 0) return;
         const last = this.#done.at(-1);
@@ -56,9 +56,9 @@ export class Deeds {
     #passOrders(count) {
         let missing = count;
         while (missing > 0 && this.#undone.length > 0) {
-            const deed = this.#undone.shift();
-            if (deed.orders > missing) this.#undone.unshift({ orders: deed.orders - missing });
-            missing -= Math.min(missing, deed.orders);
+            const action = this.#undone.shift();
+            if (action.orders > missing) this.#undone.unshift({ orders: action.orders - missing });
+            missing -= Math.min(missing, action.orders);
         }
     }
 
@@ -76,11 +76,11 @@ export class Deeds {
         this.#undone = [...gone, ...this.#undone];
     }
 
-    /** The deed that comes next where all is performed again, of at most so many orders; null where there is none. */
+    /** The action that comes next where all is performed again, of at most so many orders; null where there is none. */
     next(limit) {
-        const deed = this.#undone[0];
-        if (deed === undefined) return null;
-        return deed.line === undefined ? { orders: Math.min(limit, deed.orders) } : deed;
+        const action = this.#undone[0];
+        if (action === undefined) return null;
+        return action.line === undefined ? { orders: Math.min(limit, action.orders) } : action;
     }
 
     /** Only so many orders can be gone back over: those before are forgotten. */
@@ -98,7 +98,7 @@ export class Deeds {
 
     /** The mounted tape's text, as far as it was mounted by a line that counts; null where none was. */
     get tape() {
-        const mounted = this.#done.findLast((deed) => /^ *mount( |$)/.test(deed.line ?? ""));
+        const mounted = this.#done.findLast((action) => /^ *mount( |$)/.test(action.line ?? ""));
         return mounted === undefined ? null : mounted.line.replace(/^ *mount ?/, "");
     }
 }

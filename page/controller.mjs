@@ -1,14 +1,14 @@
 // The controller. All that the page does is lines to the monitor, and all that it knows are their replies.
+import { ActionHistory } from "./action_history.mjs";
 import { PLACES, addressIn, addressOf, addressesFrom, isAmong, numberOf, trackOf, windowAt } from "./addresses.mjs";
-import { Deeds } from "./action_history.mjs";
-import { Known } from "./word_cache.mjs";
 import { commandIn, commentsIn, isIdle, linesIn, plainOf, setUp } from "./lines.mjs";
-import { Looks, SHOWN, costsIn, rowsIn } from "./queries.mjs";
+import { LIMITS, MemoryBudget } from "./memory_budget.mjs";
 import * as replies from "./module/replies.mjs";
 import { NoMemory } from "./module/session.mjs";
 import { Run, questionOf, startsText } from "./portions.mjs";
-import { ROOM, Room } from "./memory_budget.mjs";
+import { Queries, SHOWN, costsIn, rowsIn } from "./queries.mjs";
 import { Transcript } from "./transcript.mjs";
+import { WordCache } from "./word_cache.mjs";
 
 const ACCOUNTS_KEPT = 400;
 const TALK_KEPT = 300;
@@ -21,7 +21,7 @@ const IN_DIGITS = /^ *put +\d{4} +[0-9fgjkqw]{8} *$/;
 const STEPS = new Set(["put", "mount", "press", "type", "turn"]);
 const RUNS = new Set(["run", "operate", "trace", "profile", "drum", "optimum", "trace-data", "profile-data", "optimum-data"]);
 
-/** A deed that was not begun, and the notice that says why. */
+/** An action that was not begun, and the notice that says why. */
 class Held extends Error {
     constructor(notice) {
         super(notice.kind);
@@ -29,8 +29,8 @@ class Held extends Error {
     }
 }
 
-/** The laboratory as the page has it. After each change it dispatches an event `change`; views read its fields. */
-export class Laboratory extends EventTarget {
+/** The controller of a laboratory. After each change it dispatches an event `change`; views read its fields. */
+export class Controller extends EventTarget {
     /** The last panel; the words shown, each with the order that changed it last, or null; the words of the track that the counter names; and how many codes
      * have been printed, with the typewriter's paper. */
     panel = null;
@@ -74,7 +74,7 @@ export class Laboratory extends EventTarget {
     /** Whether the last orders of a run are told after it, and whether the page shows something of its own, which no reader has done. */
     wantsLast = false;
     isOnShow = false;
-    deeds = new Deeds();
+    history = new ActionHistory();
     /** How many orders were performed since the laboratory was opened, and again where they were performed again. */
     performed = 0;
     /** Lines that only ask and leave no trace, which a view wants asked at each look as well, and their last replies. */
@@ -82,7 +82,7 @@ export class Laboratory extends EventTarget {
     answers = [];
 
     #link;
-    #looks;
+    #queries;
     #transcript;
     #first = "0000";
     #live = { live: new Set(), way: { kind: "go" } };
@@ -91,21 +91,21 @@ export class Laboratory extends EventTarget {
     #tail = Promise.resolve();
     #stops = false;
     #said = [];
-    #room = new Room();
+    #budget = new MemoryBudget();
     #isInScript = false;
     #isRuleOfScript = [];
     #hit = null;
     #costsOfLine = null;
     #isTouched = false;
     #image = null;
-    #known;
+    #cache;
     #isPrinted = false;
 
     constructor(link) {
         super();
         this.#link = link;
-        this.#looks = new Looks(link);
-        this.#known = new Known(link);
+        this.#queries = new Queries(link);
+        this.#cache = new WordCache(link);
         this.#transcript = new Transcript(link);
     }
 
@@ -113,7 +113,7 @@ export class Laboratory extends EventTarget {
     open() {
         return this.#act(async () => {
             await this.#link.opened;
-            this.#commands = await this.#looks.commands();
+            this.#commands = await this.#queries.commands();
             this.#questions = new Set([...this.#commands].filter(([, { asks }]) => asks).map(([name]) => name));
             await this.#look();
         });
@@ -156,10 +156,10 @@ export class Laboratory extends EventTarget {
 
     // Actions come one after another; each ends with a look at the machine.
 
-    #act(deed) {
+    #act(action) {
         const done = this.#tail.then(async () => {
             try {
-                return await deed();
+                return await action();
             } catch (failure) {
                 await this.#recover(failure);
                 return undefined;
@@ -173,25 +173,25 @@ export class Laboratory extends EventTarget {
     }
 
     /** An action whose lines an open source would take for its own: while one is open it is held. */
-    #question(deed) {
+    #question(action) {
         return this.#act(async () => {
             if (this.openSource !== null) throw new Held({ kind: "sourceIsOpen" });
-            return deed();
+            return action();
         });
     }
 
-    #deed(deed) {
+    #action(action) {
         return this.#question(async () => {
             Object.assign(this, { notice: null, lastRun: null });
-            return deed();
+            return action();
         });
     }
 
-    /** A deed that takes memory: where little is left it is held. */
-    #work(deed) {
-        return this.#deed(async () => {
-            if (this.#room.isUsedUp) throw new Held({ kind: "usedUp" });
-            return deed();
+    /** An action that takes memory: where little is left it is held. */
+    #work(action) {
+        return this.#action(async () => {
+            if (this.#budget.isUsedUp) throw new Held({ kind: "usedUp" });
+            return action();
         });
     }
 
@@ -205,7 +205,7 @@ export class Laboratory extends EventTarget {
             this.notice = failure.notice;
             return this.#look();
         }
-        this.#known.forget();
+        this.#cache.forget();
         const lines = this.#said.join("\n");
         const isMemory = failure instanceof NoMemory;
         this.notice = { kind: isMemory ? "noMemory" : "broken", detail: failure.message, lines };
@@ -227,7 +227,7 @@ export class Laboratory extends EventTarget {
     /** Begins with a new module. */
     async #anew() {
         await this.#link.anew();
-        this.#room.anew();
+        this.#budget.anew();
         this.#forget();
         await this.#look();
     }
@@ -237,7 +237,7 @@ export class Laboratory extends EventTarget {
     async #fresh() {
         if (this.openSource !== null) await this.#ask(".");
         const before = await this.#offer();
-        if (this.#room.isFresh) {
+        if (this.#budget.isFresh) {
             await this.#ask("new");
             this.#forget();
             await this.#look();
@@ -252,20 +252,20 @@ export class Laboratory extends EventTarget {
     }
 
     #forget() {
-        this.deeds.clear();
+        this.history.clear();
         this.#first = "0000";
         this.#isTouched = false;
         this.#hit = null;
         Object.assign(this, { openSource: null, accounts: [], rows: [], profile: null, costs: null, assembled: null, labels: new Map(), loaded: null, loading: null, rules: [], lastRun: null, performed: 0 });
         this.#isRuleOfScript = [];
         this.#said = [];
-        this.#known.forget();
+        this.#cache.forget();
         this.#transcript.begin();
     }
 
     #ask(line) {
-        if (commandIn(plainOf(line)) !== "trace-data") this.#known.forget();
-        this.#room.sent(line);
+        if (commandIn(plainOf(line)) !== "trace-data") this.#cache.forget();
+        this.#budget.sent(line);
         return this.#link.ask(line);
     }
 
@@ -287,17 +287,17 @@ export class Laboratory extends EventTarget {
 
     /** Holds a line for which memory may not be enough. Whether it is a run that is to be done in portions. */
     async #isLongRun(line) {
-        if (this.#room.isUsedUp || this.#room.mostIn(line) !== null) await this.#lookAtPaper();
-        if (this.#room.isUsedUp && !Room.isAlwaysTaken(line, this.#questions)) throw new Held({ kind: "usedUp" });
-        if (this.#room.longRunIn(line) !== null) return true;
-        const most = this.#room.mostIn(line);
+        if (this.#budget.isUsedUp || this.#budget.mostIn(line) !== null) await this.#lookAtPaper();
+        if (this.#budget.isUsedUp && !MemoryBudget.isAlwaysTaken(line, this.#questions)) throw new Held({ kind: "usedUp" });
+        if (this.#budget.longRunIn(line) !== null) return true;
+        const most = this.#budget.mostIn(line);
         if (most !== null) throw new Held({ kind: "tooMany", line, most });
         return false;
     }
 
     /** Does a line `run` in portions. Where they stop before its end the line of a script is left with the orders that are still to be done. */
     async #longRun(line) {
-        const limit = this.#room.longRunIn(line);
+        const limit = this.#budget.longRunIn(line);
         this.#stops = false;
         const run = await this.#portions(limit);
         const reply = run.reply ?? `ran ${run.orders} ${run.end === "rule" ? `rule ${run.rule}` : run.end}\n`;
@@ -343,14 +343,14 @@ export class Laboratory extends EventTarget {
         const last = this.accounts.at(-1);
         if (last !== undefined) last.register ??= null;
         const [noted] = hasNames ? await this.#transcript.last(1) : [line];
-        this.deeds.line(noted, isAgain);
+        this.history.line(noted, isAgain);
     }
 
     /** Orders were performed that were not told: what was told before them are not the last orders any more. */
     #noteOrders(count, isAgain = false) {
         this.performed += count;
-        this.deeds.orders(count, isAgain);
-        this.#room.ran(count);
+        this.history.orders(count, isAgain);
+        this.#budget.ran(count);
         if (count > 0) Object.assign(this, { accounts: [], rows: [], loading: null });
     }
 
@@ -361,7 +361,7 @@ export class Laboratory extends EventTarget {
         const before = this.accounts;
         const isRefused = replies.isRefusal(end);
         if (verb === "operate") this.#noteStarts(replies.startsOf(reply), Number(limit));
-        if (isRefused) this.#forgetDeeds();
+        if (isRefused) this.#forgetHistory();
         else this.#noteEnd(replies.runOf(end), isAgain);
         if (isReport && verb === "profile-data") this.profile = replies.profileOf(told);
         if (isReport && verb === "trace-data") this.#noteTold(replies.accountsOf(told), before);
@@ -374,15 +374,15 @@ export class Laboratory extends EventTarget {
     /** Start was pressed this number of times, each time after a run. The reply does not report how many orders these runs had, so they cannot be gone back over. */
     #noteStarts(starts, limit) {
         if (starts === 0) return;
-        this.#forgetDeeds();
+        this.#forgetHistory();
         this.performed += starts * limit;
-        this.#room.ran(starts * limit);
+        this.#budget.ran(starts * limit);
     }
 
     /** The last orders were told, after others. */
     #noteTold(accounts, before) {
         this.accounts = [...before, ...accounts].slice(-ACCOUNTS_KEPT);
-        this.#known.told(accounts);
+        this.#cache.told(accounts);
         this.#isPrinted ||= accounts.some(({ printed }) => printed !== null);
     }
 
@@ -411,7 +411,7 @@ export class Laboratory extends EventTarget {
 
     /** The source that assembled last is on the drum. */
     #noteLoad(reply) {
-        this.#forgetDeeds();
+        this.#forgetHistory();
         const { source, cells } = this.#image;
         Object.assign(this, { loaded: source, loading: { words: cells, orders: replies.loadedOf(reply) } });
     }
@@ -430,13 +430,13 @@ export class Laboratory extends EventTarget {
     }
 
     #noteBack(orders) {
-        this.deeds.back(orders);
+        this.history.back(orders);
         if (orders > 0) this.rows = [];
     }
 
     /** What was done so far cannot be gone back over, or it is not known how many orders it was; and it was not told. */
-    #forgetDeeds() {
-        this.deeds.clear();
+    #forgetHistory() {
+        this.history.clear();
         Object.assign(this, { accounts: [], rows: [], loading: null });
     }
 
@@ -444,13 +444,13 @@ export class Laboratory extends EventTarget {
      * the rules are as they were, and so is what is printed unless one of them has printed. In an open source there is no looking. Words that the reader has asked for remain shown until the counter changes. */
     async #look() {
         if (this.openSource !== null) return;
-        const isWhole = !this.#known.isTold;
-        if (isWhole) this.#noteState(await this.#looks.state());
+        const isWhole = !this.#cache.isTold;
+        if (isWhole) this.#noteState(await this.#queries.state());
         else await this.#lookAtOnce();
-        const asked = [this.#lookAtWords(isWhole), this.#looks.others(this.questionsToo)];
-        if (isWhole) asked.push(this.#looks.rules().then((rules) => { this.rules = rules; }));
+        const asked = [this.#lookAtWords(isWhole), this.#queries.others(this.questionsToo)];
+        if (isWhole) asked.push(this.#queries.rules().then((rules) => { this.rules = rules; }));
         if (isWhole || this.#isPrinted) asked.push(this.#lookAtPaper());
-        else this.#room.printed(this.printed.count);
+        else this.#budget.printed(this.printed.count);
         [, this.answers] = await Promise.all(asked);
         if (this.#hit !== null) this.notice = { kind: "rule", number: this.#hit, rule: this.rules[this.#hit], isOfScript: this.#isRuleOfScript[this.#hit] ?? false };
         this.#hit = null;
@@ -460,8 +460,8 @@ export class Laboratory extends EventTarget {
     async #lookAtOnce() {
         const told = this.accounts.at(-1)?.at ?? this.panel.counter;
         const [track] = trackOf(addressOf((numberOf(told) + 1) % PLACES));
-        const { panel, live, reply } = await this.#looks.stateWith(track, this.printed.count);
-        this.#known.take(reply);
+        const { panel, live, reply } = await this.#queries.stateWith(track, this.printed.count);
+        this.#cache.take(reply);
         this.#noteState({ panel, live });
     }
 
@@ -488,15 +488,15 @@ export class Laboratory extends EventTarget {
 
     async #lookAtWords(isWhole) {
         const track = trackOf(this.panel.counter);
-        await this.#known.ask([...track, ...this.#shown], !isWhole);
-        if (isWhole) await this.#known.askOrigins(this.#shown);
-        Object.assign(this, { words: this.#known.words(this.#shown), track: this.#known.words(track).map(({ address, digits }) => ({ address, text: digits })) });
+        await this.#cache.ask([...track, ...this.#shown], !isWhole);
+        if (isWhole) await this.#cache.askOrigins(this.#shown);
+        Object.assign(this, { words: this.#cache.words(this.#shown), track: this.#cache.words(track).map(({ address, digits }) => ({ address, text: digits })) });
     }
 
     async #lookAtPaper() {
-        this.printed = await this.#looks.paper();
+        this.printed = await this.#queries.paper();
         this.#isPrinted = false;
-        this.#room.printed(this.printed.count);
+        this.#budget.printed(this.printed.count);
     }
 
     /** Shows the words around an address. */
@@ -517,12 +517,12 @@ export class Laboratory extends EventTarget {
 
     /** Does lines one after another, as a button does: none of them is meant for a source. */
     command(...lines) {
-        return this.#deed(() => this.#sayAll(lines));
+        return this.#action(() => this.#sayAll(lines));
     }
 
     /** Performs orders, at most this number, and shows where their word times went. */
     addUp(limit) {
-        return this.#deed(async () => {
+        return this.#action(async () => {
             await this.#say(`json profile-data ${limit}`, false, true);
             await this.#look();
         });
@@ -568,7 +568,7 @@ export class Laboratory extends EventTarget {
 
     /** Goes back by orders, as far as steps are kept. */
     back(orders) {
-        return this.#deed(async () => {
+        return this.#action(async () => {
             const reply = await this.#say(`back ${orders}`);
             if (replies.isRefusal(reply)) await this.#backAsFar(replies.refusalOf(reply));
             await this.#look();
@@ -577,7 +577,7 @@ export class Laboratory extends EventTarget {
 
     async #backAsFar({ kind, number }) {
         if (kind !== "TooFar") return;
-        this.deeds.keep(number);
+        this.history.keep(number);
         if (number > 0) await this.#say(`back ${number}`);
     }
 
@@ -586,12 +586,12 @@ export class Laboratory extends EventTarget {
     forward(orders, whenDone = () => {}) {
         return this.#work(async () => {
             const isTold = orders <= TOLD_AT_ONCE;
-            const registerBefore = this.deeds.next(1)?.line === undefined ? this.panel.register : null;
+            const registerBefore = this.history.next(1)?.line === undefined ? this.panel.register : null;
             let missing = orders;
-            for (let deed = this.deeds.next(missing); deed !== null; deed = this.deeds.next(missing)) {
-                const performed = await this.#again(deed, isTold);
+            for (let action = this.history.next(missing); action !== null; action = this.history.next(missing)) {
+                const performed = await this.#again(action, isTold);
                 missing -= performed;
-                if (performed === 0 && deed.line === undefined) break;
+                if (performed === 0 && action.line === undefined) break;
             }
             await this.#look();
             if (orders === 1 && missing === 0) whenDone(Object.assign(this.accounts.at(-1), { registerBefore }));
@@ -599,7 +599,7 @@ export class Laboratory extends EventTarget {
         });
     }
 
-    /** Performs a deed again. A rule may end it early. */
+    /** Performs an action again. A rule may end it early. */
     async #again({ line, orders }, isTold) {
         if (line !== undefined) await this.#say(line, true);
         if (orders === 0) return 0;
@@ -628,7 +628,7 @@ export class Laboratory extends EventTarget {
         const run = new Run(limit, this.printed.count, isOperated);
         while (run.goesOn && !this.#stops) {
             const start = performance.now();
-            await this.#portion(run, run.next(this.#room));
+            await this.#portion(run, run.next(this.#budget));
             run.took(performance.now() - start);
             await this.#tellProgress(run);
         }
@@ -644,15 +644,15 @@ export class Laboratory extends EventTarget {
         this.#noteStarts(starts, size);
         if (replies.isRefusal(reply)) {
             this.#refused(line, reply);
-            this.#forgetDeeds();
+            this.#forgetHistory();
             return run.refused(reply);
         }
         const told = replies.runOf(reply);
         this.#noteOrders(told.orders);
         if (!this.#isInScript) this.#hit = told.rule;
         run.noted(told, starts);
-        if (this.#room.isUsedUp || this.#room.codesAtMost >= run.asksAt) await this.#lookAtPaper();
-        return run.watched(this.#room, this.printed.count);
+        if (this.#budget.isUsedUp || this.#budget.codesAtMost >= run.asksAt) await this.#lookAtPaper();
+        return run.watched(this.#budget, this.printed.count);
     }
 
     async #tellProgress(run) {
@@ -675,10 +675,10 @@ export class Laboratory extends EventTarget {
         return this.lastRun;
     }
 
-    /** Tells the last orders, where they were not told: those since the operator's last deed, as far as they are kept. They are gone back over and performed again, with the rules taken out
+    /** Tells the last orders, where they were not told: those since the operator's last action, as far as they are kept. They are gone back over and performed again, with the rules taken out
      * meanwhile, so that none of these stops them earlier. */
     async #tellLast() {
-        const wanted = Math.min(LAST_TOLD, this.deeds.unbroken);
+        const wanted = Math.min(LAST_TOLD, this.history.unbroken);
         if (wanted <= this.accounts.length) return;
         await this.#transcript.aside(async () => {
             const rules = await this.#withoutRules();
@@ -731,13 +731,13 @@ export class Laboratory extends EventTarget {
     }
 
     async #assemble(source) {
-        if (source.length > ROOM.source) throw new Held({ kind: "sourceTooLong" });
+        if (source.length > LIMITS.source) throw new Held({ kind: "sourceTooLong" });
         this.source = source;
         const lines = ["source", ...linesIn(source).map((line) => (line === "." ? " ." : line)), "."];
         this.#said.push(...lines);
         this.#isTouched = true;
-        for (const line of lines) this.#room.sent(line);
-        this.#known.forget();
+        for (const line of lines) this.#budget.sent(line);
+        this.#cache.forget();
         const reply = await this.#link.askAll(lines);
         this.talk = [...this.talk, { line: "source ..", reply }].slice(-TALK_KEPT);
         await this.#noteSource(reply);
@@ -752,7 +752,7 @@ export class Laboratory extends EventTarget {
         this.assembled = replies.sourceOf(reply);
         if (this.assembled.faults.length > 0) return;
         this.#image = { source: this.source, cells: this.assembled.cells };
-        this.labels = await this.#looks.labels();
+        this.labels = await this.#queries.labels();
     }
 
     /** A new laboratory, with the lines of a script that set a machine up. The others are kept, to be done. The lines of the one before are offered, as by `new`. */
@@ -826,7 +826,7 @@ export class Laboratory extends EventTarget {
 
     /** Does the next line of the script that asks for something, or all that are left. A source is done as one. */
     scriptLines(count) {
-        return this.#deed(async () => {
+        return this.#action(async () => {
             const { lines } = this.script;
             for (let done = 0; done < count && this.script.at < lines.length;) {
                 const line = lines[this.script.at];
@@ -854,25 +854,25 @@ export class Laboratory extends EventTarget {
     /** The accounts of the same orders, none where they are too many, and what they would have taken with each of these words at each sector; null where that cannot be asked now. */
     askPlacing(addresses) {
         return this.#question(async () => {
-            const isTold = this.deeds.unbroken <= PLACED_AT_MOST;
+            const isTold = this.history.unbroken <= PLACED_AT_MOST;
             const told = await this.#overLast([...(isTold ? [(orders) => `json trace-data ${orders}`] : []), ...addresses.map((address) => (orders) => `json optimum-data ${orders} ${address}`)]);
             const accounts = isTold ? replies.accountsOf(replies.reportOf(told.shift()).told) : [];
             return { accounts, words: told.map(costsIn) };
         }).then((told) => told ?? null);
     }
 
-    /** Goes back over the last orders, those since the operator's last deed, as far as they are kept, and performs them again by each of these lines. The rules are taken out meanwhile, so that
+    /** Goes back over the last orders, those since the operator's last action, as far as they are kept, and performs them again by each of these lines. The rules are taken out meanwhile, so that
      * none of them stops the orders earlier. */
     async #overLast(lines) {
-        if (this.#room.isUsedUp) throw new Held({ kind: "usedUp" });
-        const [told, known] = [[], this.#known];
-        this.#known = new Known(this.#link);
+        if (this.#budget.isUsedUp) throw new Held({ kind: "usedUp" });
+        const [told, cache] = [[], this.#cache];
+        this.#cache = new WordCache(this.#link);
         await this.#transcript.aside(async () => {
             const rules = await this.#withoutRules();
-            for (const line of lines) told.push(await this.#ask(line(await this.#backOver(this.deeds.unbroken))));
+            for (const line of lines) told.push(await this.#ask(line(await this.#backOver(this.history.unbroken))));
             await this.#askAll(rules);
             const isAsBefore = told.every((reply) => !replies.isRefusal(replies.reportOf(reply).end));
-            if (isAsBefore) this.#known = known;
+            if (isAsBefore) this.#cache = cache;
             return isAsBefore;
         });
         return told;
@@ -880,7 +880,7 @@ export class Laboratory extends EventTarget {
 
     /** Takes the rules out. Gives the lines that put them in again. */
     async #withoutRules() {
-        const rules = (await this.#looks.rules()).map((rule) => rule.split(" ").slice(0, 2).join(" "));
+        const rules = (await this.#queries.rules()).map((rule) => rule.split(" ").slice(0, 2).join(" "));
         await this.#askAll(rules.map(() => "drop 0"));
         return rules;
     }
@@ -900,8 +900,8 @@ export class Laboratory extends EventTarget {
 
     /** The digits of all words of the drum as it is now, in the order of their addresses; null where a source is open. They are asked once, and after something was done that was not told. */
     drum() {
-        this.#known.drum ??= this.#act(async () => (this.openSource === null ? this.#looks.drum() : null)).then((digits) => digits ?? null);
-        return this.#known.drum;
+        this.#cache.drum ??= this.#act(async () => (this.openSource === null ? this.#queries.drum() : null)).then((digits) => digits ?? null);
+        return this.#cache.drum;
     }
 
     /** The order that changed a shown word last, or null where no order that is kept has, or a hand did later. */

@@ -3,8 +3,8 @@
 import { existsSync, readFileSync, readdirSync } from "node:fs";
 import { join } from "node:path";
 import { remarksOf, sourceIn, tableIn } from "./examples.mjs";
-import { lessonIn } from "./lessons.mjs";
 import { LESSONS } from "./lesson_steps.mjs";
+import { lessonIn } from "./lessons.mjs";
 import { sentencesIn, taskIn } from "./task.mjs";
 import { LANGUAGES } from "./words.mjs";
 

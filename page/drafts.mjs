@@ -1,11 +1,11 @@
 // What stands in the fields of the page, by their names: it stays when the page is laid anew, and is kept with the work that it belongs to.
 
-import { Earlier } from "./line_history.mjs";
+import { LineHistory } from "./line_history.mjs";
 
 /** Texts of fields. Dispatches `change` when one is written. */
 export class Drafts extends EventTarget {
     /** The lines for the machine that were typed before. */
-    earlier = new Earlier();
+    history = new LineHistory();
 
     #texts = new Map();
 

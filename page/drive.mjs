@@ -137,12 +137,12 @@ export class Drive extends EventTarget {
 
     /** Performs the next order: where one was gone back over, that again. */
     #next(whenDone) {
-        const { deeds } = this.#laboratory;
-        return deeds.ahead > 0 ? this.#laboratory.forward(1, whenDone) : this.#laboratory.step(1, true, whenDone);
+        const { history } = this.#laboratory;
+        return history.ahead > 0 ? this.#laboratory.forward(1, whenDone) : this.#laboratory.step(1, true, whenDone);
     }
 
     #play(account, pace) {
-        const { speed, hurry = account.act / SECTORS } = pace === "show" ? speedInShow(account, this.#laboratory.deeds.behind) : PACES[pace];
+        const { speed, hurry = account.act / SECTORS } = pace === "show" ? speedInShow(account, this.#laboratory.history.behind) : PACES[pace];
         Object.assign(this.#player, { pace: speed, hurry });
         this.#player.play(account);
         this.dispatchEvent(new Event("play"));

@@ -78,8 +78,8 @@ export class Exhibit extends EventTarget {
         this.#drive.halt();
     }
 
-    #do(deed) {
-        const done = this.#tail.then(deed);
+    #do(action) {
+        const done = this.#tail.then(action);
         this.#tail = done.catch(() => {});
         return done;
     }
@@ -175,11 +175,11 @@ export class Exhibit extends EventTarget {
 
     /** The next order of the story, played in slow motion; where nothing may move, its end. Where there is none the story has ended. */
     async #next() {
-        const [laboratory, before] = [this.#laboratory, this.#laboratory.deeds.behind];
+        const [laboratory, before] = [this.#laboratory, this.#laboratory.history.behind];
         if (!this.#isBegun) await this.#start(this.name);
-        if (this.#settings.isStill()) await (laboratory.deeds.ahead > 0 ? laboratory.forward(1) : laboratory.step(1));
+        if (this.#settings.isStill()) await (laboratory.history.ahead > 0 ? laboratory.forward(1) : laboratory.step(1));
         else await this.#drive.step("tale");
-        if (laboratory.deeds.behind > before) this.at += 1;
+        if (laboratory.history.behind > before) this.at += 1;
         else this.#change("end");
         this.dispatchEvent(new Event("change"));
     }

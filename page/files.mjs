@@ -1,13 +1,13 @@
 // Files that are opened as scripts, and links that open one.
 import { commandIn, isIdle, linesIn } from "./lines.mjs";
-import { ROOM } from "./memory_budget.mjs";
+import { LIMITS } from "./memory_budget.mjs";
 
 /** Scripts that a link may hold: some browsers take no longer addresses. */
 const LONGEST_LINK = 30_000;
 
 /** Why a text cannot be opened as a script, by the name of what is told; or null. Nothing is done with it. */
 export function unopened(text, knows) {
-    if (text.length > ROOM.lines) return "fileTooLong";
+    if (text.length > LIMITS.lines) return "fileTooLong";
     if (/[\0\ufffd]/.test(text)) return "fileNoText";
     const first = linesIn(text).find((line) => !isIdle(line));
     return first === undefined || knows(commandIn(first)) ? null : "fileNoScript";

@@ -4,7 +4,7 @@
 const [MOST, NONE] = [128, 1e-6];
 
 /** A hand at the drum of a laboratory. Dispatches `turn` when it has turned within an order, `end` with the way in which it cannot go on, and `rest` when all that was asked for is done. */
-export class Turning extends EventTarget {
+export class HandTurning extends EventTarget {
     #laboratory;
     #player;
     #drive;
@@ -76,8 +76,8 @@ export class Turning extends EventTarget {
     }
 
     /** Does one thing after another. */
-    #do(deed) {
-        this.#tail = this.#tail.then(deed);
+    #do(action) {
+        this.#tail = this.#tail.then(action);
         return this.#tail;
     }
 
@@ -123,7 +123,7 @@ export class Turning extends EventTarget {
         const laboratory = this.#laboratory;
         const last = laboratory.accounts.at(-1);
         const begin = (account) => this.#player.hold(account, 0);
-        if (laboratory.deeds.ahead > 0) await laboratory.forward(1);
+        if (laboratory.history.ahead > 0) await laboratory.forward(1);
         else await laboratory.step(1, true, begin);
         const account = laboratory.accounts.at(-1);
         if (account === undefined || account === last) return false;
@@ -136,7 +136,7 @@ export class Turning extends EventTarget {
         if (this.#shown !== null) await laboratory.back(1);
         this.#player.end();
         if (this.#shown !== null) return true;
-        if (laboratory.deeds.behind === 0) {
+        if (laboratory.history.behind === 0) {
             await laboratory.tell({ kind: "noneBehind" });
             return false;
         }

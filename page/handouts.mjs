@@ -5,8 +5,8 @@ import { dirname, join } from "node:path";
 import { fileURLToPath } from "node:url";
 import { SECTORS, positionOf } from "./addresses.mjs";
 import { documentOf, lackingIn } from "./documents.mjs";
+import { solveLesson } from "./lesson_solver.mjs";
 import { lessonIn } from "./lessons.mjs";
-import { solved } from "./lesson_solver.mjs";
 import { LANGUAGES } from "./words.mjs";
 
 const documents = join(dirname(fileURLToPath(import.meta.url)), "../docs/lessons");
@@ -136,7 +136,7 @@ function sheetOf(name, document, code, { answers, costs }, isSolved) {
 /** Writes all sheets into a folder. */
 async function writeSheets(folder) {
     for (const [name, { ringOf }] of Object.entries(SHEETS)) {
-        const { answers, laboratory } = await solved(name);
+        const { answers, laboratory } = await solveLesson(name);
         if (ringOf !== undefined) await laboratory.askCosts(ringOf);
         for (const code of Object.keys(LANGUAGES).filter((code) => !lackingIn(documents, code).includes(name))) {
             const document = readFileSync(documentOf(documents, name, code), "utf8");

@@ -4,11 +4,11 @@ const steps = (orders) => (it) => it.step(orders);
 const types = (...lines) => (it) => it.say(...lines);
 const starts = (it) => it.command("press start");
 const runs = (it) => it.run();
-const one = (...deeds) => async (it) => { for (const deed of deeds) await deed(it); };
+const one = (...actions) => async (it) => { for (const action of actions) await action(it); };
 const puts = (words) => types(...words.map((word) => `put ${word}`));
 
 /** What is done in each step before it is done or asked; null where nothing is. */
-export const DEEDS = {
+export const SOLUTIONS = {
     "a-computer-on-a-drum": [
         null, null,
         types("put 0000 b 0050", "put 0050 = 6"), one(starts, steps(1)), null, null, null, null, null, steps(1),
@@ -38,6 +38,6 @@ export async function bringTo(laboratory, name, steps, place, open) {
     await open(steps[first]);
     for (let at = first; at < place; at += 1) {
         if (steps[at].shows !== undefined) await laboratory.showAt(steps[at].shows);
-        await DEEDS[name][at]?.(laboratory);
+        await SOLUTIONS[name][at]?.(laboratory);
     }
 }

@@ -75,7 +75,7 @@ export const LESSONS = [
         { types: true, done: all(isOrderAt("0000", "p 4900"), isOrderAt("0001", "p 1700"), wasSaid("put 0002 z 0000")) },
         { answer: lastOf("act"), isAsked: wasAt("0000") },
         { answer: clock, isAsked: all(hasStopped, wasAt("0002")) },
-        { answer: paper, isAsked: ({ deeds }) => deeds.ahead === 2 },
+        { answer: paper, isAsked: ({ history }) => history.ahead === 2 },
         { types: true, done: all(hasStopped, ({ printed }) => printed.count === 4) },
         { answer: clock, isAsked: all(hasStopped, ({ printed }) => printed.count === 4) },
         { done: ({ printed }) => printed.text.startsWith("hih") },

@@ -1,9 +1,9 @@
-// Lines that were typed before, brought back one after another; and a text that is pasted, as the lines that it is.
+// Lines that were typed before, brought back one after another.
 
 const KEPT = 200;
 
 /** The lines typed before. */
-export class Earlier {
+export class LineHistory {
     #lines = [];
     #at = 0;
     #draft = "";
@@ -29,10 +29,4 @@ export class Earlier {
         this.#at += 1;
         return this.#lines[this.#at] ?? this.#draft;
     }
-}
-
-/** What becomes of a text that is pasted between what is there before and after it: the lines that it ends, and what stays. Null where it ends no line. */
-export function pasted(text, before, after) {
-    const lines = `${before}${text}`.replace(/\r\n?/g, "\n").split("\n");
-    return lines.length === 1 ? null : { lines: lines.slice(0, -1), stays: `${lines.at(-1)}${after}` };
 }

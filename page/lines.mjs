@@ -1,4 +1,4 @@
-// Scripts as lines, and what a script of examples/ says about itself.
+// Scripts and pasted texts as lines, and what a script of examples/ says about itself.
 
 const COMMENT = /^;/;
 const BLANK = /^ *\r?$/;
@@ -66,4 +66,10 @@ export function withoutQuestions(script, questions) {
     const lines = written.map((line) => line.replace(/\r?\n?$/, ""));
     const inSource = areInSource(lines);
     return written.filter((unused, place) => inSource[place] || !questions.has(commandIn(lines[place]))).join("");
+}
+
+/** What becomes of a text that is pasted between what is there before and after it: the lines that it ends, and what stays. Null where it ends no line. */
+export function pasted(text, before, after) {
+    const lines = `${before}${text}`.replace(/\r\n?/g, "\n").split("\n");
+    return lines.length === 1 ? null : { lines: lines.slice(0, -1), stays: `${lines.at(-1)}${after}` };
 }

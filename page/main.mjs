@@ -1,46 +1,46 @@
 // Puts the page together: the machines, their views, what the address asks for, and what is kept.
+import { Controller } from "./controller.mjs";
 import { Drafts } from "./drafts.mjs";
 import { Drive } from "./drive.mjs";
 import { withRemarks } from "./examples.mjs";
 import { Exhibit, KIOSK } from "./exhibit.mjs";
-import { GAMES } from "./placing_game.mjs";
 import { linkOf } from "./files.mjs";
+import { HandTurning } from "./hand_turning.mjs";
 import { Keeper, Sources, Works, takeOver } from "./keeper.mjs";
-import { Laboratory } from "./controller.mjs";
 import { Checker } from "./language.mjs";
+import { LESSONS, setUpFor } from "./lesson_steps.mjs";
 import { headOf, linesIn, withoutQuestions } from "./lines.mjs";
 import { Link } from "./link.mjs";
 import { version } from "./module/package.json";
 import { addressOf, askedIn, inLanguage } from "./opening.mjs";
 import { movedSource, timesOf } from "./placing.mjs";
+import { PLACING_GAMES } from "./placing_game.mjs";
 import { Player } from "./player.mjs";
 import { Sound, follow } from "./sound.mjs";
-import { LESSONS, setUpFor } from "./lesson_steps.mjs";
 import { openStore } from "./store.mjs";
-import { Turning } from "./hand_turning.mjs";
 import { makeAccounts, makeTime } from "./views/accounts.mjs";
 import { makeCarried } from "./views/carried.mjs";
-import { makeCosts } from "./views/costs.mjs";
 import { makeConsole, makeKeyboard } from "./views/console.mjs";
-import { button, h, kept, part } from "./views/dom.mjs";
+import { makeCosts } from "./views/costs.mjs";
+import { button, h, memoized, part } from "./views/dom.mjs";
 import { behind, makeDoors, makeHall, makeSkip, showDoor } from "./views/doors.mjs";
 import { makeDrum } from "./views/drum.mjs";
-import { Faster } from "./views/placing_game.mjs";
 import { makeHeap } from "./views/game.mjs";
 import { makeTurner } from "./views/hand.mjs";
-import { hearDrops, makeOpen, openFile } from "./views/open_file.mjs";
 import { isLeaving, makeKiosk, refuseOthers, watchIdle } from "./views/kiosk.mjs";
 import { makeLesson, noLesson } from "./views/lesson.mjs";
 import { makeListing } from "./views/listing.mjs";
-import { makeNotices, placeNotices } from "./views/notice.mjs";
 import { makeMap } from "./views/map.mjs";
+import { makeNotices, placeNotices } from "./views/notice.mjs";
+import { hearDrops, makeOpen, openFile } from "./views/open_file.mjs";
 import { makePace } from "./views/pace.mjs";
 import { makePanel } from "./views/panel.mjs";
 import { makePaper, makeTape } from "./views/paper.mjs";
+import { PlacingGameView } from "./views/placing_game.mjs";
 import { makeProfile } from "./views/profile.mjs";
 import { makePlate, makeScope } from "./views/scope.mjs";
-import { makeSource } from "./views/source.mjs";
 import { linksToSheet, showSheet, withDrawings } from "./views/sheets.mjs";
+import { makeSource } from "./views/source.mjs";
 import { arrange, makeStage } from "./views/stage.mjs";
 import { makeStory } from "./views/story.mjs";
 import { reveal } from "./views/tabs.mjs";
@@ -111,7 +111,7 @@ const machines = { own: null, shown: null };
 /** Opens a machine, with its drive. */
 async function openMachine() {
     const link = openLink();
-    const made = new Laboratory(link);
+    const made = new Controller(link);
     await made.open();
     const driven = new Drive(made, player, () => run(made), clocks);
     made.addEventListener("change", () => { if (made === laboratory) show(); });
@@ -211,13 +211,13 @@ function beginWork(texts) {
 }
 
 /** Does what begins another laboratory; what was written in the one before is kept and offered. Its source stays in its field where that is wanted. */
-function beginAnother(deed, { keepsSource = false, isOffered = true } = {}) {
+function beginAnother(action, { keepsSource = false, isOffered = true } = {}) {
     opening = opening.then(async () => {
         drive.halt();
         keepWork();
         const { source, carried, ...others } = drafts.all;
         const before = beginWork(keepsSource && source !== undefined ? { ...others, source } : others);
-        await deed();
+        await action();
         const { notice } = laboratory;
         if (isOffered && before !== null && (notice === null || notice.kind === "before")) await laboratory.tell({ ...notice ?? { kind: "beforeKept" }, work: before.id });
         noteWork();
@@ -541,18 +541,18 @@ async function writeMoved(placing, orders, nameOf) {
 
 /** The hand at the drum of the machine that is seen. */
 function turningOf() {
-    const turning = new Turning(laboratory, player, drive);
+    const turning = new HandTurning(laboratory, player, drive);
     turning.addEventListener("turn", () => { for (const view of picture.views) view.frame(); });
     turning.addEventListener("rest", show);
     return turning;
 }
 
 /** What the program of a game takes, asked once of a laboratory that has nothing else to do; null where it could not be run. */
-const askGame = kept(({ example, words }) => openGameMachine(example, words));
+const askGame = memoized(({ example, words }) => openGameMachine(example, words));
 
 async function openGameMachine(example, words) {
     const link = openLink();
-    const machine = new Laboratory(link);
+    const machine = new Controller(link);
     await machine.open();
     await setUpFor(machine, { opens: example }, exampleNamed);
     await machine.run();
@@ -570,7 +570,7 @@ function makeGame() {
     const lesson = button(text("backToLesson"), () => goTo("learn"), { id: "back-to-lesson" });
     const others = (name) => (name === "race" ? [lesson] : [...stories, gameButton(true)]);
     const keptMoves = { of: () => keeper.of("game"), keep: (moves) => keeper.keep("game", moves) };
-    return new Faster(texts, { ask: (program) => askGame(program.name, program), kept: keptMoves, isStill: () => still.matches, seconds: asked.seconds ?? 120, others });
+    return new PlacingGameView(texts, { ask: (program) => askGame(program.name, program), kept: keptMoves, isStill: () => still.matches, seconds: asked.seconds ?? 120, others });
 }
 
 /** Has a game in place of the stories, or, where that is null, these. */
@@ -613,7 +613,7 @@ const kioskViews = { faster: null };
 function makeExhibit() {
     const made = { drum: makeDrum(laboratory, texts, showing), scope: makeScope(laboratory, texts, showing), heap: makeHeap(laboratory, texts), paper: makePaper(laboratory, texts, showing) };
     for (const node of [made.drum.node, made.paper.node]) node.querySelector("h2").classList.add("unseen");
-    kioskViews.faster = new Faster(texts, { ask: (program) => askGame(program.name, program), kept: { of: () => null, keep: () => {} }, isStill: () => still.matches, seconds: Infinity, others: () => [] });
+    kioskViews.faster = new PlacingGameView(texts, { ask: (program) => askGame(program.name, program), kept: { of: () => null, keep: () => {} }, isStill: () => still.matches, seconds: Infinity, others: () => [] });
     if (exhibit.state === "faster") kioskViews.faster.open();
     return makeKiosk(laboratory, texts, { ...showing, drive }, exhibit, made, [makeSoundSwitch()], kioskViews);
 }
@@ -638,8 +638,8 @@ function makeAll() {
 function place(made) {
     document.body.className = isKiosk ? "kiosk" : "";
     placeNotices(null);
-    const deeds = { run: () => drive.go(isKiosk ? "fast" : drive.chosen), save, anew: () => (isKiosk ? exhibit.attract() : openBlank()), linkTo: (lines) => linkTo(withoutQuestions(lines, laboratory.questions)), goBack: (id) => openWork(works.of(id)) };
-    notices = makeNotices(laboratory, texts, isKiosk, deeds);
+    const actions = { run: () => drive.go(isKiosk ? "fast" : drive.chosen), save, anew: () => (isKiosk ? exhibit.attract() : openBlank()), linkTo: (lines) => linkTo(withoutQuestions(lines, laboratory.questions)), goBack: (id) => openWork(works.of(id)) };
+    notices = makeNotices(laboratory, texts, isKiosk, actions);
     views = [...made.views, follow(laboratory, sound, showing)];
     picture.views = views.filter(({ frame }) => frame !== undefined);
     document.getElementById("page").replaceChildren(...made.nodes);
@@ -714,10 +714,10 @@ async function leaveKiosk() {
 function onWorkKey(event) {
     const { card, run } = parts.source;
     const name = [event.ctrlKey ? "Ctrl" : "", event.shiftKey ? "Shift" : "", event.key].filter((part) => part !== "").join(" ");
-    const deed = { F1: card.toggle, "Ctrl Enter": () => run.click(), F10: () => drive.step(), "Shift F10": () => laboratory.back(1), ...(card.isOpen() ? { Escape: card.close } : drive.pace === null ? {} : { Escape: () => drive.halt() }) }[name];
-    if (deed === undefined || event.defaultPrevented || event.target.closest("dialog") !== null) return false;
+    const action = { F1: card.toggle, "Ctrl Enter": () => run.click(), F10: () => drive.step(), "Shift F10": () => laboratory.back(1), ...(card.isOpen() ? { Escape: card.close } : drive.pace === null ? {} : { Escape: () => drive.halt() }) }[name];
+    if (action === undefined || event.defaultPrevented || event.target.closest("dialog") !== null) return false;
     event.preventDefault();
-    deed();
+    action();
     return true;
 }
 
@@ -733,8 +733,8 @@ function onKey(event) {
     if (event.target.closest("input, .CodeMirror, select, dialog") || event.ctrlKey || event.altKey || event.metaKey) return;
     const go = (pace) => () => { drive.chosen = pace; drive.go(pace); };
     const [order, fast] = [go("order"), go("fast")];
-    const deed = { s: () => drive.step(), w: order, r: fast, h: () => drive.halt(), "[": () => laboratory.back(1), "]": () => laboratory.forward(1), 1: order, 2: go("slow"), 3: go("own"), 4: fast }[event.key];
-    if (deed !== undefined && hasShortKeys) deed();
+    const action = { s: () => drive.step(), w: order, r: fast, h: () => drive.halt(), "[": () => laboratory.back(1), "]": () => laboratory.forward(1), 1: order, 2: go("slow"), 3: go("own"), 4: fast }[event.key];
+    if (action !== undefined && hasShortKeys) action();
 }
 
 /** In the hall the drum turns, until it is stopped; where no motion is wanted it stands. */
@@ -748,7 +748,7 @@ function wrongIn({ lesson, task, story, game, example, script }) {
     if (lesson !== null && !LESSONS.some(({ name }) => name === lesson)) return { kind: "noLesson", detail: lesson };
     if (task !== null && !parts.tasks.has(task)) return { kind: "noTask", detail: task, tasks: Object.keys(tasks.tasks) };
     if (story !== null && TALES[story - 1] === undefined) return { kind: "noStory", detail: story };
-    if (game !== null && !GAMES.has(game)) return { kind: "noGame", detail: game };
+    if (game !== null && !PLACING_GAMES.has(game)) return { kind: "noGame", detail: game };
     return script === null && example !== null && !examples.has(example) ? { kind: "noExample", detail: example } : null;
 }
 

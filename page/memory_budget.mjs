@@ -6,7 +6,7 @@ import { commandIn } from "./lines.mjs";
 
 /** The bytes of lines and the codes that a session may reach; how many codes short of that no more is begun; the codes after which a run asks; the
  * most orders that one line tells, and the most signs of a source that is sent at once. */
-export const ROOM = { lines: 3_000_000, codes: 1_000_000, last: 10_000, asksAfter: 20_000, told: 10_000, source: 1_500_000 };
+export const LIMITS = { lines: 3_000_000, codes: 1_000_000, last: 10_000, asksAfter: 20_000, told: 10_000, source: 1_500_000 };
 
 const PERFORMS = /^ *(?:json +)?(run|orders|operate|profile|trace|drum|optimum|profile-data|trace-data|optimum-data) +(\d+)(?: +\S+)? *$/;
 const TELL_EACH = ["trace", "drum", "trace-data"];
@@ -17,7 +17,7 @@ const USED_LITTLE = 100_000;
 const lengthOf = (text) => new TextEncoder().encode(text).length;
 
 /** What a session has taken so far. */
-export class Room {
+export class MemoryBudget {
     #lines = 0;
     #codes = 0;
     #unasked = 0;
@@ -45,12 +45,12 @@ export class Room {
 
     /** How many orders may be performed at once, whatever they print. */
     get orders() {
-        return Math.max(0, ROOM.codes - this.codesAtMost);
+        return Math.max(0, LIMITS.codes - this.codesAtMost);
     }
 
     /** Whether no more is to be begun. */
     get isUsedUp() {
-        return this.#lines >= ROOM.lines || this.orders < ROOM.last;
+        return this.#lines >= LIMITS.lines || this.orders < LIMITS.last;
     }
 
     /** Whether a new laboratory may be opened in the same memory. */
@@ -67,7 +67,7 @@ export class Room {
     /** The most orders that may stand in a line where it names more than that, else null. */
     mostIn(line) {
         const [, verb, number] = PERFORMS.exec(line) ?? [];
-        const most = TELL_EACH.includes(verb) ? Math.min(ROOM.told, this.orders) : verb === "operate" ? this.runs : this.orders;
+        const most = TELL_EACH.includes(verb) ? Math.min(LIMITS.told, this.orders) : verb === "operate" ? this.runs : this.orders;
         return verb !== undefined && Number(number) > most ? most : null;
     }
 

@@ -10,7 +10,7 @@ export const PROGRAMS = [
 ];
 
 /** The games by their names in an address, each with the programs that it leads through: the one of the lesson begins with a single word. */
-export const GAMES = new Map([["faster", PROGRAMS], ["race", [{ ...PROGRAMS[2], name: "wage", words: ["0128"] }, PROGRAMS[2]]]]);
+export const PLACING_GAMES = new Map([["faster", PROGRAMS], ["race", [{ ...PROGRAMS[2], name: "wage", words: ["0128"] }, PROGRAMS[2]]]]);
 
 const BLANK = "00000000";
 
@@ -21,7 +21,7 @@ export function roundIn(accounts, loop) {
 }
 
 /** What is played: the program, the words where they are, and what was tried. */
-export class Game {
+export class PlacingGame {
     program = null;
     placing = null;
     picked = null;

@@ -1,5 +1,5 @@
 // Runs are done in portions, so that Stop is heard, and so that no more is printed than memory holds and a reader wants.
-import { ROOM } from "./memory_budget.mjs";
+import { LIMITS } from "./memory_budget.mjs";
 
 /** The orders of a first portion, the runs of a first one by `operate`, the most orders, and how long a portion should take. */
 const PORTION = { first: 2000, starts: 100, most: 50_000_000, milliseconds: 50 };
@@ -12,7 +12,7 @@ export function nextPortion(size, took) {
 
 /** How many orders may be performed at once where a run is to ask after its codes: as many as print no more than are left, if they print as those before did. */
 export function ordersUntilAsked(orders, codes) {
-    return codes === 0 ? Infinity : Math.max(1, Math.ceil(((ROOM.asksAfter - codes) * orders) / codes));
+    return codes === 0 ? Infinity : Math.max(1, Math.ceil(((LIMITS.asksAfter - codes) * orders) / codes));
 }
 
 /** How often a run under way is told of, in milliseconds. */
@@ -34,7 +34,7 @@ export class Run {
     #sizes = { run: PORTION.first, operate: PORTION.starts };
     #portion = null;
     #performed = 0;
-    #untilAsked = ROOM.asksAfter;
+    #untilAsked = LIMITS.asksAfter;
     #began = performance.now();
     #told = this.#began;
 
@@ -50,13 +50,13 @@ export class Run {
 
     /** The number of codes at which it asks whether to go on. */
     get asksAt() {
-        return this.printed + ROOM.asksAfter;
+        return this.printed + LIMITS.asksAfter;
     }
 
     /** The next portion, as far as there is room. */
-    next(room) {
+    next(budget) {
         const verb = this.#isAtRest ? "operate" : "run";
-        const most = this.#isAtRest ? room.runs : Math.min(this.#limit - this.orders, room.orders, this.#untilAsked);
+        const most = this.#isAtRest ? budget.runs : Math.min(this.#limit - this.orders, budget.orders, this.#untilAsked);
         this.#portion = { verb, size: Math.min(this.#sizes[verb], most) };
         return this.#portion;
     }
@@ -81,12 +81,12 @@ export class Run {
     }
 
     /** This many codes were printed when the paper was looked at last. The run ends where they are too many, and the next portion has as many orders as may print what is left. */
-    watched(room, count) {
-        const unasked = room.codesAtMost - count;
+    watched(budget, count) {
+        const unasked = budget.codesAtMost - count;
         const known = ordersUntilAsked(this.#performed - unasked, count - this.printed) - unasked;
-        this.#untilAsked = this.#performed < ROOM.asksAfter ? ROOM.asksAfter - this.#performed : Math.max(1, known);
+        this.#untilAsked = this.#performed < LIMITS.asksAfter ? LIMITS.asksAfter - this.#performed : Math.max(1, known);
         if (this.end !== "limit") return;
-        if (room.isUsedUp) this.end = "usedUp";
+        if (budget.isUsedUp) this.end = "usedUp";
         else if (count >= this.asksAt) this.end = "printed";
     }
 

@@ -1,4 +1,4 @@
-// Looks at the machine. Each is made of questions that leave no trace in the transcript, so that what is saved are the reader's lines alone.
+// Queries about the machine. Each is made of questions that leave no trace in the transcript, so that what is saved are the reader's lines alone.
 import { SECTORS, addressOf, sectorAt } from "./addresses.mjs";
 import * as replies from "./module/replies.mjs";
 import { wordOf } from "./views/says.mjs";
@@ -6,8 +6,8 @@ import { wordOf } from "./views/says.mjs";
 /** How many words are shown around the counter. */
 export const SHOWN = 16;
 
-/** Looks over a link. */
-export class Looks {
+/** Queries over a link. */
+export class Queries {
     #link;
 
     constructor(link) {

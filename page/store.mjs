@@ -80,10 +80,10 @@ function had(storage) {
 }
 
 /** The first of several that does not fail, or null. */
-async function firstOf(deeds) {
-    for (const deed of deeds) {
+async function firstOf(actions) {
+    for (const action of actions) {
         try {
-            const store = await deed();
+            const store = await action();
             return { store, values: await store.all() };
         } catch {
             // the next one is tried

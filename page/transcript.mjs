@@ -32,9 +32,9 @@ export class Transcript {
         return (await this.#lines()).slice(-count);
     }
 
-    /** Does what nobody has asked for. Where `deed` gives that it has ended where it began, its lines are left out of the script. */
-    async aside(deed) {
+    /** Does what nobody has asked for. Where `action` gives that it has ended where it began, its lines are left out of the script. */
+    async aside(action) {
         const first = (await this.#lines()).length;
-        if (await deed()) this.#asides.push([first, (await this.#lines()).length]);
+        if (await action()) this.#asides.push([first, (await this.#lines()).length]);
     }
 }

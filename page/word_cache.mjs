@@ -1,4 +1,4 @@
-// Words of the drum as the monitor says them, asked each time. What has put a word there is asked once: as long as the monitor tells each order, an account says which word its order has stored.
+// The words of the drum that the monitor told last. What has put a word there is asked once: as long as the monitor tells each order, an account says which word its order has stored.
 import { SECTORS } from "./addresses.mjs";
 import * as replies from "./module/replies.mjs";
 
@@ -12,8 +12,8 @@ const originBy = ({ order, at, clock, stored: { before } }) => ({ order: bare(or
 /** The words of a reply, by their addresses. */
 const wordsIn = (reply) => new Map(replies.heldOf(reply).map((word) => [word.address, word]));
 
-/** What is known over a link. */
-export class Known {
+/** A cache over a link. */
+export class WordCache {
     #link;
     /** The words of the tracks that were asked last, and what put words there, null where no order has; each by its address. */
     #words = new Map();

@@ -1,6 +1,6 @@
 // A program as it is brought into the machine: assembled, loaded or put, with its tape and its switches.
-import { LONG_TAPE, MOUNT_LIMIT } from "../../page/module/monitor_session.mjs";
 import { linesIn, textFrom } from "../../page/module/lines.mjs";
+import { LONG_TAPE, MOUNT_LIMIT } from "../../page/module/monitor_session.mjs";
 import { SWITCHES, isRefusal, linesOf, sourceOf } from "../../page/module/replies.mjs";
 import { Source, typedSource } from "../../page/module/source.mjs";
 import { Refused } from "./machine.mjs";

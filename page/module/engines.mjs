@@ -9,18 +9,18 @@ const INDENT = "        ";
 /** A question whose reply tells that the objects for a line have come: nobody else writes it with these spaces. */
 const ASKED = "  panel-data   ";
 
-/** A session of the module, with a desk and a typist over it. */
+/** A session of the module, with a monitor session and a typist over it. */
 export class ModuleEngine {
     #recorded;
-    #desk;
+    #monitor;
     #typist;
     #openRecorded;
     #said = "";
 
     /** `typistOver` makes a typist that says what is written, and `openRecorded` opens another session. */
-    constructor(recorded, desk, typistOver, openRecorded) {
+    constructor(recorded, monitor, typistOver, openRecorded) {
         this.#recorded = recorded;
-        this.#desk = desk;
+        this.#monitor = monitor;
         this.#openRecorded = openRecorded;
         this.#typist = typistOver((text) => (this.#said += text));
     }
@@ -44,7 +44,7 @@ export class ModuleEngine {
     }
 
     get hasLeft() {
-        return this.#desk.hasLeft;
+        return this.#monitor.hasLeft;
     }
 
     /** Another laboratory, in which lines can be tried. */
@@ -54,7 +54,7 @@ export class ModuleEngine {
     }
 
     async close() {
-        return this.#desk.close();
+        return this.#monitor.close();
     }
 }
 

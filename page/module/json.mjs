@@ -13,7 +13,7 @@ export const escapedOf = (text) => text.replace(/["\\]|[^ -~]/g, (sign) => (/["\
 
 const stringOf = (text) => `"${escapedOf(text)}"`;
 
-/** What is written for a line and its reply, with where the line comes from; the line is null for a reply of the desk itself. */
+/** What is written for a line and its reply, with where the line comes from; the line is null for a reply of the program itself. */
 export function objectOf(line, reply, note) {
     const isRefused = isRefusal(reply);
     const hasObjects = line !== null && !isRefused && isForPrograms(line);

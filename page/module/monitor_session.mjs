@@ -1,4 +1,4 @@
-// The monitor at a desk: lines that are typed until `quit`, each perhaps above its reply.
+// A session of the monitor as a program has it: lines that are typed until `quit`, and what is written for each, perhaps below the line itself.
 import { isForPrograms, objectOf } from "./json.mjs";
 import { frontOf, isLonger, linesIn, wordsOf } from "./lines.mjs";
 import { isRefusal, panelOf, printedOf } from "./replies.mjs";
@@ -21,14 +21,14 @@ function dumpedIn(text, isPut) {
     return { words };
 }
 
-export class Desk {
+export class MonitorSession {
     #recorded;
     #openBeside;
     #manner;
     #hasLeft = false;
     #isRefused = false;
 
-    /** A desk over a session, with what opens another one, for what is tried beside it, and how replies are written: "bare", "echo" or "json". */
+    /** A monitor session over a recorded one, with what opens another one, in which something can be tried, and how replies are written: "bare", "echo" or "json". */
     constructor(recorded, openBeside, manner = "bare") {
         this.#recorded = recorded;
         this.#openBeside = openBeside;
@@ -70,7 +70,7 @@ export class Desk {
         return isByObjects ? this.#recorded.answerBy(`json ${line}`, line) : this.#recorded.answer(line);
     }
 
-    /** A reply of the desk itself as it is written, with the note after a refusal. */
+    /** A reply of the program itself as it is written, with the note after a refusal. */
     own(reply, note) {
         if (this.#manner === "json") return objectOf(null, reply, note);
         const isRefused = isRefusal(reply);

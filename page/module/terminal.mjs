@@ -7,10 +7,10 @@
 // and the status alone says whether it would be.
 import { openSync, readFileSync, statSync } from "node:fs";
 import { isatty } from "node:tty";
-import { Desk } from "./monitor_session.mjs";
 import { ModuleEngine } from "./engines.mjs";
 import { readAll, readSome, writeAll } from "./files.mjs";
 import { bytesFrom, endedText, hasLine, isLonger, linesIn, textFrom } from "./lines.mjs";
+import { MonitorSession } from "./monitor_session.mjs";
 import { Recorded } from "./recorded.mjs";
 import { isRefusal } from "./replies.mjs";
 import { NoMemory, Session, answerScript, compiled } from "./session.mjs";
@@ -150,39 +150,39 @@ function sittingOf(words) {
 }
 
 /** Types the lines of standard input as they come. */
-function typeInput(typist, desk) {
+function typeInput(typist, monitor) {
     const portion = Buffer.alloc(65_536);
     let begun = "";
-    while (!desk.hasLeft) {
+    while (!monitor.hasLeft) {
         const count = readSome(0, portion);
         if (count === 0) break;
         const lines = (begun + textFrom(portion.subarray(0, count))).split("\n");
         begun = lines.pop();
-        for (const line of lines) if (!desk.hasLeft) typist.typeLine(line);
+        for (const line of lines) if (!monitor.hasLeft) typist.typeLine(line);
     }
-    if (begun !== "" && !desk.hasLeft) typist.typeLine(begun, false);
+    if (begun !== "" && !monitor.hasLeft) typist.typeLine(begun, false);
 }
 
-/** Holds a sitting at a terminal over the session of a desk. */
-async function sitAtTerminal(recorded, desk, openBeside) {
-    const engine = new ModuleEngine(recorded, desk, (say) => new Typist(desk, openBeside, say), openBeside);
+/** Holds a sitting at a terminal over a monitor session. */
+async function sitAtTerminal(recorded, monitor, openBeside) {
+    const engine = new ModuleEngine(recorded, monitor, (say) => new Typist(monitor, openBeside, say), openBeside);
     await sitWith(engine);
 }
 
-async function monitor({ names, manner }) {
+async function runMonitor({ names, manner }) {
     const recorded = new Recorded(new Session(module, REGIONS[1]));
     const openBeside = () => new Recorded(new Session(module, BESIDE));
-    const desk = new Desk(recorded, openBeside, manner);
-    const typist = new Typist(desk, openBeside, (text) => write(bytesFrom(text)));
+    const monitor = new MonitorSession(recorded, openBeside, manner);
+    const typist = new Typist(monitor, openBeside, (text) => write(bytesFrom(text)));
     const isPrompting = isatty(0) && isatty(1) && manner === "bare";
     typist.typeFirst(names);
     if (isPrompting) {
-        if (!desk.hasLeft) await sitAtTerminal(recorded, desk, openBeside);
+        if (!monitor.hasLeft) await sitAtTerminal(recorded, monitor, openBeside);
         return WELL;
     }
-    typeInput(typist, desk);
-    write(bytesFrom(desk.close()));
-    return desk.isRefused ? QUESTIONS : WELL;
+    typeInput(typist, monitor);
+    write(bytesFrom(monitor.close()));
+    return monitor.isRefused ? QUESTIONS : WELL;
 }
 
 const isAsked = process.argv[2] === "--takes";
@@ -194,7 +194,7 @@ async function status() {
             const sitting = sittingOf(words);
             if (isAsked) return WELL;
             tellWay("./prove lgp30m");
-            return await monitor(sitting);
+            return await runMonitor(sitting);
         }
         const task = taskOf(words);
         if (isAsked) return WELL;

@@ -1,7 +1,7 @@
-// Who types at a desk what files hold, for a line that names one.
-import { LONG_TAPE, MOUNT_LIMIT } from "./monitor_session.mjs";
+// Types the contents of files into a monitor session, for lines that name files.
 import { FileTrouble, keepFile, readFile } from "./files.mjs";
 import { LINE_LIMIT, endedText, frontOf, hasLine, isLonger, linesIn, withoutReturn, wordsOf } from "./lines.mjs";
+import { LONG_TAPE, MOUNT_LIMIT } from "./monitor_session.mjs";
 import { codesOf, isRefusal, refusalOf, tapeTextOf } from "./replies.mjs";
 
 const DEPTH = 16;
@@ -33,20 +33,20 @@ function tapePieceAt(text, at) {
 }
 
 export class Typist {
-    #desk;
+    #monitor;
     #openBeside;
     #write;
 
-    /** A typist at a desk, with what opens another session, in which a tape is tried, and with what writes. */
-    constructor(desk, openBeside, write) {
-        this.#desk = desk;
+    /** A typist for a monitor session, with what opens another session, in which a tape is tried, and with what writes. */
+    constructor(monitor, openBeside, write) {
+        this.#monitor = monitor;
         this.#openBeside = openBeside;
         this.#write = write;
     }
 
     /** Types the files that the command line names, one after another. */
     typeFirst(names) {
-        for (const name of names) if (!this.#desk.hasLeft) this.#workOn("do", name, "named on the command line", DEPTH);
+        for (const name of names) if (!this.#monitor.hasLeft) this.#workOn("do", name, "named on the command line", DEPTH);
     }
 
     /** Types a line of a person; one without a line feed keeps its carriage return. */
@@ -61,9 +61,9 @@ export class Typist {
 
     /** A line, with the note that says where it comes from; this many files more may be opened within one another. */
     #say(line, note, depth) {
-        const request = this.#desk.takesCommands && line.length <= LINE_LIMIT ? requestIn(line) : null;
+        const request = this.#monitor.takesCommands && line.length <= LINE_LIMIT ? requestIn(line) : null;
         if (request !== null) this.#workOn(request.word, request.name, note, depth);
-        else this.#write(this.#desk.line(line, note));
+        else this.#write(this.#monitor.line(line, note));
     }
 
     #workOn(word, name, note, depth) {
@@ -71,22 +71,22 @@ export class Typist {
             this.#write(this.#worked(word, name, note, depth));
         } catch (trouble) {
             if (!(trouble instanceof FileTrouble)) throw trouble;
-            this.#write(this.#desk.own(`? 13 File ${name}: ${trouble.message}\n`, note));
+            this.#write(this.#monitor.own(`? 13 File ${name}: ${trouble.message}\n`, note));
         }
     }
 
     /** Does what a line asks for; gives what is written for it that is not written yet. */
     #worked(word, name, note, depth) {
         if (KEPT_ELSEWHERE.includes(word)) throw new FileTrouble(NATIVE);
-        if (word === "save") return this.#keep(name, this.#desk.dump(), note);
-        if (word === "punch") return this.#keep(name, this.#desk.printed(), note);
+        if (word === "save") return this.#keep(name, this.#monitor.dump(), note);
+        if (word === "punch") return this.#keep(name, this.#monitor.printed(), note);
         if (word === "do" && depth === 0) throw new FileTrouble(`${DEPTH} files are already open, each from the one before`);
         const text = readFile(name);
         if (word === "do") return this.#typeFile(name, text, depth - 1);
         if (word === "source") return this.#source(text, within(name, note));
-        if (word === "restore") return this.#desk.restore(name, dumpLines(text).join(""), within(name, note));
+        if (word === "restore") return this.#monitor.restore(name, dumpLines(text).join(""), within(name, note));
         if (READ_ELSEWHERE.includes(word)) throw new FileTrouble(NATIVE);
-        return this.#desk.line(`mount ${this.#tapeIn(text)}`, within(name, note));
+        return this.#monitor.line(`mount ${this.#tapeIn(text)}`, within(name, note));
     }
 
     /** The tape text of a file, if it is one: the module says whether. A line takes the text of its codes, whatever line ends and groups the file has. */
@@ -117,7 +117,7 @@ export class Typist {
     /** Types the lines of a file. */
     #typeFile(name, text, depth) {
         for (const [at, line] of linesIn(text).entries()) {
-            if (this.#desk.hasLeft) break;
+            if (this.#monitor.hasLeft) break;
             this.#say(withoutReturn(line), `line ${at + 1} of ${name}`, depth);
         }
         return "";
@@ -126,11 +126,11 @@ export class Typist {
     /** Types a source, with the lines that open and close it. */
     #source(text, note) {
         if (hasLine(text, ".")) throw new FileTrouble("a line with only a point would end the source");
-        return ["source", ...linesIn(endedText(text)), "."].map((line) => this.#desk.line(withoutReturn(line), note)).join("");
+        return ["source", ...linesIn(endedText(text)), "."].map((line) => this.#monitor.line(withoutReturn(line), note)).join("");
     }
 
     #keep(name, text, note) {
         keepFile(name, text);
-        return this.#desk.own(`saved ${name}\n`, note);
+        return this.#monitor.own(`saved ${name}\n`, note);
     }
 }

@@ -1,60 +1,60 @@
 import assert from "node:assert/strict";
 import { test } from "node:test";
+import { ActionHistory } from "../action_history.mjs";
 import { addressIn, addressOf, isAmong, numberOf, positionOf, windowAt } from "../addresses.mjs";
-import { Deeds } from "../action_history.mjs";
 import { headOf, linesIn, setUp } from "../lines.mjs";
 import { addressOf as placeOf, askedIn, inLanguage } from "../opening.mjs";
 import { nextPortion, ordersUntilAsked } from "../portions.mjs";
 
 test("orders gone back over are ahead, with the presses between them", () => {
-    const deeds = new Deeds();
-    deeds.line("press start");
-    deeds.orders(3);
-    deeds.line("press bp4 down");
-    deeds.orders(2);
-    deeds.back(4);
-    assert.deepEqual([deeds.behind, deeds.ahead], [1, 4]);
+    const history = new ActionHistory();
+    history.line("press start");
+    history.orders(3);
+    history.line("press bp4 down");
+    history.orders(2);
+    history.back(4);
+    assert.deepEqual([history.behind, history.ahead], [1, 4]);
     const again = [];
-    for (let deed = deeds.next(1); deed !== null; deed = deeds.next(9)) {
-        again.push(deed);
-        if (deed.line === undefined) deeds.orders(deed.orders, true);
-        else deeds.line(deed.line, true);
+    for (let action = history.next(1); action !== null; action = history.next(9)) {
+        again.push(action);
+        if (action.line === undefined) history.orders(action.orders, true);
+        else history.line(action.line, true);
     }
     assert.deepEqual(again, [{ orders: 1 }, { orders: 1 }, { line: "press bp4 down", orders: 0 }, { orders: 2 }]);
-    assert.deepEqual([deeds.behind, deeds.ahead], [5, 0]);
+    assert.deepEqual([history.behind, history.ahead], [5, 0]);
 });
 
 test("what is done again in part stays ahead in part", () => {
-    const deeds = new Deeds();
-    deeds.orders(5);
-    deeds.back(5);
-    deeds.orders(2, true);
-    assert.deepEqual([deeds.behind, deeds.ahead, deeds.next(0), deeds.next(9)], [2, 3, { orders: 0 }, { orders: 3 }]);
+    const history = new ActionHistory();
+    history.orders(5);
+    history.back(5);
+    history.orders(2, true);
+    assert.deepEqual([history.behind, history.ahead, history.next(0), history.next(9)], [2, 3, { orders: 0 }, { orders: 3 }]);
 });
 
-test("a deed that is new leaves nothing ahead", () => {
-    const deeds = new Deeds();
-    deeds.orders(5);
-    deeds.back(2);
-    deeds.line("put 0000 00000000");
-    assert.deepEqual([deeds.behind, deeds.ahead], [3, 0]);
+test("an action that is new leaves nothing ahead", () => {
+    const history = new ActionHistory();
+    history.orders(5);
+    history.back(2);
+    history.line("put 0000 00000000");
+    assert.deepEqual([history.behind, history.ahead], [3, 0]);
 });
 
 test("what is no longer kept is forgotten", () => {
-    const deeds = new Deeds();
-    deeds.orders(5000);
-    deeds.keep(4096);
-    assert.deepEqual([deeds.behind, deeds.forgotten], [4096, 904]);
+    const history = new ActionHistory();
+    history.orders(5000);
+    history.keep(4096);
+    assert.deepEqual([history.behind, history.forgotten], [4096, 904]);
 });
 
 test("the tape is that of the last mounting that counts", () => {
-    const deeds = new Deeds();
-    deeds.line("mount 1'");
-    deeds.orders(1);
-    deeds.line("mount 2'");
-    assert.equal(deeds.tape, "2'");
-    deeds.back(1);
-    assert.equal(deeds.tape, "1'");
+    const history = new ActionHistory();
+    history.line("mount 1'");
+    history.orders(1);
+    history.line("mount 2'");
+    assert.equal(history.tape, "2'");
+    history.back(1);
+    assert.equal(history.tape, "1'");
 });
 
 test("addresses", () => {

@@ -5,8 +5,8 @@ import { existsSync, readFileSync, readdirSync } from "node:fs";
 import { dirname, join } from "node:path";
 import { test } from "node:test";
 import { fileURLToPath } from "node:url";
-import { Laboratory } from "../controller.mjs";
-import { ROOM } from "../memory_budget.mjs";
+import { Controller } from "../controller.mjs";
+import { LIMITS } from "../memory_budget.mjs";
 import { NoMemory } from "../module/session.mjs";
 import { ModuleLink } from "../module_link.mjs";
 import { NativeLink } from "./native.mjs";
@@ -26,7 +26,7 @@ const live = (name, body, links = LINKS) => {
     for (const { name: by, isThere, open } of links) test(`${name}, by the ${by}`, { skip: !isThere }, async () => {
         const link = open();
         try {
-            const laboratory = new Laboratory(link);
+            const laboratory = new Controller(link);
             await laboratory.open();
             assert.equal(laboratory.notice, null);
             await body(laboratory, link);
@@ -51,20 +51,20 @@ live("what is live is what the monitor says at each look", async (laboratory) =>
 live("a step is told, gone back over and performed again", async (laboratory) => {
     await laboratory.openScript("self-modifying", exampleNamed("self-modifying"));
     await laboratory.step(4);
-    assert.deepEqual([laboratory.panel.clock, laboratory.writerOf("0009").at, laboratory.deeds.behind], [274n, "0005", 4]);
+    assert.deepEqual([laboratory.panel.clock, laboratory.writerOf("0009").at, laboratory.history.behind], [274n, "0005", 4]);
     assert.equal(laboratory.rows.length, 5);
     await laboratory.back(1);
-    assert.deepEqual([laboratory.panel.clock, laboratory.accounts.length, laboratory.deeds.ahead], [181n, 3, 1]);
+    assert.deepEqual([laboratory.panel.clock, laboratory.accounts.length, laboratory.history.ahead], [181n, 3, 1]);
     await laboratory.forward(1);
-    assert.deepEqual([laboratory.panel.clock, laboratory.accounts.length, laboratory.deeds.ahead], [274n, 4, 0]);
+    assert.deepEqual([laboratory.panel.clock, laboratory.accounts.length, laboratory.history.ahead], [274n, 4, 0]);
 });
 
 live("further back than steps are kept", async (laboratory) => {
     await laboratory.say("put 0000 u 0000", "press start");
     await laboratory.run(6000);
-    assert.equal(laboratory.deeds.behind, 6000);
+    assert.equal(laboratory.history.behind, 6000);
     await laboratory.back(6000);
-    assert.deepEqual([laboratory.deeds.behind, laboratory.deeds.ahead, laboratory.notice.kind], [0, 4096, "TooFar"]);
+    assert.deepEqual([laboratory.history.behind, laboratory.history.ahead, laboratory.notice.kind], [0, 4096, "TooFar"]);
 });
 
 live("a run in portions ends where the machine rests", async (laboratory) => {
@@ -74,7 +74,7 @@ live("a run in portions ends where the machine rests", async (laboratory) => {
     assert.ok(laboratory.printed.count > 0);
 });
 
-live("going somewhere is undone and done again deed by deed", async (laboratory) => {
+live("going somewhere is undone and done again action by action", async (laboratory) => {
     await laboratory.say("put 0100 b 0050", "go 0100");
     await laboratory.step(1);
     const { clock } = laboratory.panel;
@@ -102,11 +102,11 @@ live("the order at the register is the one that is in it", async (laboratory) =>
 
 /** Goes back by so many orders and forward again: nothing is lost. */
 async function thereAndBack(laboratory, orders) {
-    const { panel, deeds: { behind } } = laboratory;
+    const { panel, history: { behind } } = laboratory;
     await laboratory.back(orders);
-    assert.equal(laboratory.deeds.ahead, orders);
+    assert.equal(laboratory.history.ahead, orders);
     await laboratory.forward(orders);
-    assert.deepEqual([laboratory.panel, laboratory.deeds.behind, laboratory.deeds.ahead], [panel, behind, 0]);
+    assert.deepEqual([laboratory.panel, laboratory.history.behind, laboratory.history.ahead], [panel, behind, 0]);
 }
 
 live("nothing is lost where someone went somewhere in between", async (laboratory) => {
@@ -120,7 +120,7 @@ live("nothing is lost where someone went somewhere in between", async (laborator
     await laboratory.back(7);
     for (let ahead = 6; ahead >= 0; ahead -= 1) {
         await laboratory.forward(1);
-        assert.equal(laboratory.deeds.ahead, ahead);
+        assert.equal(laboratory.history.ahead, ahead);
     }
 });
 
@@ -129,8 +129,8 @@ live("what the examples do is undone and done again", async (laboratory, link) =
         await laboratory.openScript(name, exampleNamed(name));
         await laboratory.scriptLines(Infinity);
         const drum = await link.ask("dump");
-        await thereAndBack(laboratory, Math.min(9, laboratory.deeds.behind));
-        await thereAndBack(laboratory, Math.min(2000, laboratory.deeds.behind));
+        await thereAndBack(laboratory, Math.min(9, laboratory.history.behind));
+        await thereAndBack(laboratory, Math.min(2000, laboratory.history.behind));
         assert.equal(await link.ask("dump"), drum, name);
     }
 });
@@ -141,7 +141,7 @@ live("nothing is lost where a rule hits on the way", async (laboratory) => {
     await laboratory.say("break 0001", "watch 0051");
     await laboratory.back(9);
     await laboratory.forward(9);
-    assert.deepEqual([laboratory.deeds.behind, laboratory.deeds.ahead, laboratory.panel.counter], [9, 0, "0000"]);
+    assert.deepEqual([laboratory.history.behind, laboratory.history.ahead, laboratory.panel.counter], [9, 0, "0000"]);
     await laboratory.run(200);
 });
 
@@ -158,7 +158,7 @@ live("a run asks when much has been printed", async (laboratory) => {
     await laboratory.say("put 0000 p =h", "put 0001 p =i", "put 0002 u 0000", "press start");
     const { end } = await laboratory.run();
     assert.deepEqual([end, laboratory.notice], ["printed", { kind: "printedMuch", count: laboratory.printed.count }]);
-    assert.ok(laboratory.printed.count >= ROOM.asksAfter && laboratory.printed.count < ROOM.codes);
+    assert.ok(laboratory.printed.count >= LIMITS.asksAfter && laboratory.printed.count < LIMITS.codes);
     const before = laboratory.printed.count;
     await laboratory.run();
     assert.equal(laboratory.notice.count, laboratory.printed.count - before);
@@ -170,18 +170,18 @@ live("before memory ends nothing more is begun, and all can be saved", async (la
     await laboratory.say("put 0000 p =h", "put 0001 p =i", "put 0002 u 0000", "press start");
     for (let runs = 0; runs < 100 && laboratory.notice?.kind !== "usedUp"; runs += 1) await laboratory.run();
     assert.equal(laboratory.notice.kind, "usedUp");
-    assert.ok(laboratory.printed.count <= ROOM.codes && laboratory.printed.count > 0.9 * ROOM.codes);
+    assert.ok(laboratory.printed.count <= LIMITS.codes && laboratory.printed.count > 0.9 * LIMITS.codes);
     const sent = link.sent.length;
-    for (const deed of [() => laboratory.step(), () => laboratory.run(), () => laboratory.say("run 1"), () => laboratory.command("press manual"), () => laboratory.assemble(" z")]) {
-        await deed();
+    for (const action of [() => laboratory.step(), () => laboratory.run(), () => laboratory.say("run 1"), () => laboratory.command("press manual"), () => laboratory.assemble(" z")]) {
+        await action();
         assert.equal(laboratory.notice.kind, "usedUp");
     }
     assert.ok(link.sent.slice(sent).every((line) => /^(paper|json (state-data|look|show-data|why-data|rules-data))/.test(line)));
     assert.match(await laboratory.transcript(), /^put 0000 00083100\n/);
     assert.equal(await laboratory.say("words 0000 1"), "0000 00083100\n");
-    const { behind } = laboratory.deeds;
+    const { behind } = laboratory.history;
     await laboratory.back(5);
-    assert.deepEqual([laboratory.notice, laboratory.deeds.behind, laboratory.deeds.ahead], [null, behind - 5, 5]);
+    assert.deepEqual([laboratory.notice, laboratory.history.behind, laboratory.history.ahead], [null, behind - 5, 5]);
     await laboratory.new();
     assert.deepEqual([laboratory.notice.kind, laboratory.printed.count, laboratory.lost], ["before", 0, []]);
     await laboratory.say("put 0000 = 1");
@@ -249,7 +249,7 @@ live("a run that prints asks after 20,000 codes, however fast it prints", async 
         await laboratory.run();
         const { notice: { kind, count } } = laboratory;
         assert.equal(kind, "printedMuch");
-        assert.ok(count >= ROOM.asksAfter && count < 1.05 * ROOM.asksAfter, `${count}`);
+        assert.ok(count >= LIMITS.asksAfter && count < 1.05 * LIMITS.asksAfter, `${count}`);
     }
 }, LINKS.slice(0, 1));
 
@@ -259,39 +259,39 @@ live("a laboratory is restored by its lines, a source that is open and a half-do
     await laboratory.run(5);
     await laboratory.back(1);
     await laboratory.say("source", " b 0050");
-    const { lines, script, deeds: { behind } } = laboratory;
+    const { lines, script, history: { behind } } = laboratory;
     const saved = { lines: lines.join("\n"), script: { ...script } };
     await laboratory.new();
     assert.deepEqual([laboratory.script, laboratory.panel.clock], [null, 0n]);
     await laboratory.restore(saved);
-    assert.deepEqual([laboratory.lines, laboratory.openSource, laboratory.script, laboratory.deeds.behind], [lines, [" b 0050"], saved.script, behind]);
+    assert.deepEqual([laboratory.lines, laboratory.openSource, laboratory.script, laboratory.history.behind], [lines, [" b 0050"], saved.script, behind]);
     await laboratory.say(".", "new");
     assert.equal(laboratory.script, null);
 });
 
 live("a line that could print or tell more than memory holds is not begun", async (laboratory) => {
     await laboratory.say("put 0000 p =h", "put 0001 u 0000", "press start");
-    for (const [line, most] of [["orders 2000000", ROOM.codes], ["profile 1000001", ROOM.codes], ["trace 20000", ROOM.told], [" drum  20000 ", ROOM.told], ["json trace-data 10001", ROOM.told], ["profile-data 1000001", ROOM.codes]]) {
+    for (const [line, most] of [["orders 2000000", LIMITS.codes], ["profile 1000001", LIMITS.codes], ["trace 20000", LIMITS.told], [" drum  20000 ", LIMITS.told], ["json trace-data 10001", LIMITS.told], ["profile-data 1000001", LIMITS.codes]]) {
         await laboratory.say(line);
         assert.deepEqual(laboratory.notice, { kind: "tooMany", line, most });
     }
     assert.equal(laboratory.panel.clock, 0n);
     await laboratory.new();
     await laboratory.say("put 0000 u 0000", "press start", "run 900000", "run 900000");
-    assert.deepEqual([laboratory.notice, laboratory.deeds.behind], [null, 1_800_000]);
+    assert.deepEqual([laboratory.notice, laboratory.history.behind], [null, 1_800_000]);
 });
 
 live("a line that runs for long is done in portions, and what is left of a script's is kept", async (laboratory, link) => {
     await laboratory.say("put 0000 u 0000", "press start");
     assert.equal(await laboratory.say("run 3000000"), "ran 3000000 limit\n");
-    assert.deepEqual([laboratory.notice, laboratory.deeds.behind, laboratory.talk.at(-1)], [null, 3_000_000, { line: "run 3000000", reply: "ran 3000000 limit\n" }]);
+    assert.deepEqual([laboratory.notice, laboratory.history.behind, laboratory.talk.at(-1)], [null, 3_000_000, { line: "run 3000000", reply: "ran 3000000 limit\n" }]);
     await laboratory.openScript("prints", "put 0000 p =h\nput 0001 u 0000\npress start\nrun 3000000\nput 0000 z 0000\n");
     await laboratory.scriptLines(Infinity);
     const { notice, printed: { count }, script } = laboratory;
     assert.deepEqual([notice, script.at, script.lines[3]], [{ kind: "printedMuch", count }, 3, `run ${3_000_000 - 2 * count}`]);
     await laboratory.scriptLines(1);
     assert.deepEqual([script.at, script.lines[3]], [3, `run ${3_000_000 - 2 * laboratory.printed.count}`]);
-    assert.ok(laboratory.printed.count >= count + ROOM.asksAfter);
+    assert.ok(laboratory.printed.count >= count + LIMITS.asksAfter);
     await laboratory.new();
     await laboratory.say("put 0000 b 0000", "put 0001 u 0000", "break 0001", "press start");
     assert.equal(await laboratory.say("run 3000000"), "ran 1 rule 0\n");
@@ -361,12 +361,12 @@ live("a rule stops a walk and a profile in sight", async (laboratory) => {
 live("each example stands before something that goes on", async (laboratory) => {
     for (const name of names) for (const open of ["openScript", "openForShow"]) {
         await laboratory[open](name, exampleNamed(name));
-        const { live: names, way: { kind }, deeds: { behind } } = laboratory;
+        const { live: names, way: { kind }, history: { behind } } = laboratory;
         assert.ok(["start", "go"].includes(kind), name);
         assert.equal(names.has("start"), kind === "start", name);
         if (kind === "start") await laboratory.command("press start");
         await laboratory.step();
-        assert.equal(laboratory.deeds.behind, behind + 1, name);
+        assert.equal(laboratory.history.behind, behind + 1, name);
         if (open === "openForShow") assert.deepEqual(laboratory.rules, [], name);
     }
 });
@@ -401,9 +401,9 @@ live("in an open source there is no looking, and its lines are shown", async (la
 
 live("while a source is open nothing but a typed line goes into it", async (laboratory) => {
     await laboratory.say("put 0050 = 3", "source", "ten z");
-    const deeds = [["step"], ["run"], ["back", 1], ["forward", 1], ["command", "press start"], ["assemble", " z"], ["load", " z"], ["why", "0050"], ["showAt", "0050"],
+    const actions = [["step"], ["run"], ["back", 1], ["forward", 1], ["command", "press start"], ["assemble", " z"], ["load", " z"], ["why", "0050"], ["showAt", "0050"],
         ["transcript"], ["scriptLines", 1]];
-    for (const [name, ...values] of deeds) {
+    for (const [name, ...values] of actions) {
         assert.equal(await laboratory[name](...values), undefined, name);
         assert.equal(laboratory.notice?.kind, "sourceIsOpen", name);
     }
@@ -441,23 +441,23 @@ live("what a line of the reader tells in columns, the page shows as well", async
     assert.match(reply, /^ {2}clock {2}at [^]*\nran 2 limit\n$/);
     const [bring, hold] = laboratory.accounts;
     assert.deepEqual([laboratory.accounts.length, bring.order, bring.after, hold.stored.after.number], [2, "b 0003", "00000008", 4]);
-    assert.deepEqual([laboratory.panel.clock, laboratory.deeds.behind], [165n, 2]);
+    assert.deepEqual([laboratory.panel.clock, laboratory.history.behind], [165n, 2]);
     await laboratory.say("profile 3");
     assert.deepEqual([laboratory.profile.orders, laboratory.profile.times, laboratory.profile.places.length], [3, Number(laboratory.panel.clock) - 165, 3]);
     await laboratory.say("profile 5000");
-    assert.deepEqual([laboratory.profile, laboratory.deeds.behind], [null, 5005]);
+    assert.deepEqual([laboratory.profile, laboratory.history.behind], [null, 5005]);
     await laboratory.step();
     assert.deepEqual(laboratory.talk.at(-1), { line: "json trace-data 1", reply: "ran 1 limit\n" });
 });
 
 live("the last orders are the last ones, or none", async (laboratory) => {
     const untold = [() => laboratory.run(5), () => laboratory.say("orders 2"), () => laboratory.say("run 2"), () => laboratory.say("profile 2"), () => laboratory.say("go 0000")];
-    for (const deed of untold) {
+    for (const action of untold) {
         await laboratory.openScript("self-modifying", exampleNamed("self-modifying"));
         await laboratory.step(3);
         assert.deepEqual([laboratory.accounts.length, laboratory.rows.length > 0], [3, true]);
-        await deed();
-        assert.deepEqual([laboratory.accounts, laboratory.rows], [[], []], String(deed));
+        await action();
+        assert.deepEqual([laboratory.accounts, laboratory.rows], [[], []], String(action));
         await laboratory.step(2);
         assert.equal(laboratory.accounts.length, 2);
     }
@@ -487,7 +487,7 @@ async function standOf(laboratory, link, orders) {
     const asked = ["panel", "dump", "printed", "rules", "live"];
     const here = await link.askAll(asked);
     const there = await link.askAll([`back ${orders}`, ...asked, ...asked.slice(0, 2), `orders ${orders}`]);
-    return [here, there, laboratory.panel, laboratory.deeds.behind, laboratory.deeds.ahead];
+    return [here, there, laboratory.panel, laboratory.history.behind, laboratory.history.ahead];
 }
 
 live("what a word would have cost is asked of the last orders, and the machine and its rules are as they were", async (laboratory, link) => {
@@ -495,7 +495,7 @@ live("what a word would have cost is asked of the last orders, and the machine a
     await laboratory.run();
     await laboratory.run();
     await laboratory.step(3);
-    const { orders, sum } = { orders: laboratory.deeds.behind, sum: Number(laboratory.panel.clock) };
+    const { orders, sum } = { orders: laboratory.history.behind, sum: Number(laboratory.panel.clock) };
     const before = await standOf(laboratory, link, orders);
     const accounts = laboratory.accounts.length;
     await laboratory.askCosts("0003");
@@ -522,28 +522,28 @@ live("of a long run the orders are asked for that are kept, and of none that is 
         assert.deepEqual([laboratory.costs.orders, laboratory.costs.address, laboratory.costs.kind], [4096, address, kind]);
     }
     await laboratory.say("words 0000 1");
-    assert.deepEqual([laboratory.panel, laboratory.deeds.behind], [panel, 6000]);
+    assert.deepEqual([laboratory.panel, laboratory.history.behind], [panel, 6000]);
     await laboratory.say("press manual", "put 0003 = 5", "press normal", "press start");
     await laboratory.askCosts("0003");
     assert.equal(laboratory.costs.kind, "none");
     await laboratory.run(10);
     await laboratory.back(4);
     await laboratory.askCosts("0003");
-    assert.deepEqual([laboratory.costs.orders, laboratory.deeds.ahead], [6, 4]);
+    assert.deepEqual([laboratory.costs.orders, laboratory.history.ahead], [6, 4]);
 });
 
 live("a line that asks what a word would have cost is a run, and shows it", async (laboratory) => {
     await laboratory.say(...LOOP.slice(0, 3), "press start");
     await laboratory.say("optimum 10 0003");
-    assert.deepEqual([laboratory.costs.orders, laboratory.costs.address, laboratory.deeds.behind], [10, "0003", 10]);
+    assert.deepEqual([laboratory.costs.orders, laboratory.costs.address, laboratory.history.behind], [10, "0003", 10]);
     await laboratory.say("optimum 10");
-    assert.deepEqual([laboratory.costs, laboratory.deeds.behind], [null, 20]);
+    assert.deepEqual([laboratory.costs, laboratory.history.behind], [null, 20]);
     await laboratory.say("optimum 2000000 0003");
-    assert.deepEqual([laboratory.notice.kind, laboratory.deeds.behind], ["tooMany", 20]);
+    assert.deepEqual([laboratory.notice.kind, laboratory.history.behind], ["tooMany", 20]);
     await laboratory.say("optimum 5 none");
     assert.deepEqual([laboratory.notice.kind, laboratory.costs], ["Form", null]);
     await laboratory.openScript("told", `${LOOP.slice(0, 3).join("\n")}\npress start\noptimum 4 0003\n`);
-    assert.deepEqual([laboratory.script.at, laboratory.deeds.behind], [4, 0]);
+    assert.deepEqual([laboratory.script.at, laboratory.history.behind], [4, 0]);
 });
 
 live("the last orders of a run are told after it, where that is wanted, and nothing of that is in the transcript", async (laboratory) => {
@@ -569,7 +569,7 @@ live("of a run that cannot be gone back over nothing is told", async (laboratory
     await laboratory.say("put 0000 p =h", "put 0001 z", "put 0002 p =i", "put 0003 z", "press start");
     await laboratory.operate();
     assert.deepEqual([laboratory.printed.text, laboratory.panel.status], ["hi", "halted stop"]);
-    assert.deepEqual([laboratory.deeds.unbroken, laboratory.accounts.length], [1, 1]);
+    assert.deepEqual([laboratory.history.unbroken, laboratory.accounts.length], [1, 1]);
 });
 
 live("the whole drum is asked once for each state", async (laboratory, link) => {

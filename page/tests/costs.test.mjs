@@ -1,8 +1,8 @@
 // The sentences of the ring of costs, over replies as the monitor has them.
 import assert from "node:assert/strict";
 import { test } from "node:test";
-import { costsIn } from "../queries.mjs";
 import { replyOf } from "../module/tests/told_as_json.mjs";
+import { costsIn } from "../queries.mjs";
 import { costsText } from "../views/costs.mjs";
 import { LANGUAGES, textsIn } from "../words.mjs";
 

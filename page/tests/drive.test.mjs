@@ -10,7 +10,7 @@ const account = { clock: 0n, order: "b 0020", at: "0004", find: 24, take: 1, see
 function madeUp(orders = Infinity) {
     const done = { orders: 0, rests: 0, runs: 0 };
     const laboratory = {
-        notice: null, way: { kind: "go" }, panel: { clock: 0n }, deeds: { get behind() { return done.orders; } }, stop: () => {},
+        notice: null, way: { kind: "go" }, panel: { clock: 0n }, history: { get behind() { return done.orders; } }, stop: () => {},
         step: async (count, withRows, whenDone = () => {}) => {
             if (done.orders >= orders) return 0;
             done.orders += 1;
@@ -59,16 +59,16 @@ test("a step performs one order and waits for nothing", async () => {
 
 test("what was gone back over is performed again, by a step and in a pace; and Go on takes the chosen pace", async () => {
     const { drive, done, laboratory } = madeUp(4);
-    laboratory.deeds.ahead = 2;
+    laboratory.history.ahead = 2;
     laboratory.forward = async (count, whenDone) => {
-        laboratory.deeds.ahead -= 1;
+        laboratory.history.ahead -= 1;
         return laboratory.step(count, true, whenDone);
     };
     await drive.step();
     drive.choose("slow");
-    assert.deepEqual([drive.pace, laboratory.deeds.ahead], [null, 1]);
+    assert.deepEqual([drive.pace, laboratory.history.ahead], [null, 1]);
     await drive.goOn();
-    assert.deepEqual([done.orders, laboratory.deeds.ahead, drive.pace], [4, 0, null]);
+    assert.deepEqual([done.orders, laboratory.history.ahead, drive.pace], [4, 0, null]);
 });
 
 test("another pace that is chosen while the machine goes on takes effect at once", async () => {

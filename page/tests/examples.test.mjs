@@ -4,13 +4,13 @@ import { existsSync, readFileSync, readdirSync } from "node:fs";
 import { dirname, join } from "node:path";
 import { test } from "node:test";
 import { fileURLToPath } from "node:url";
+import { Controller } from "../controller.mjs";
 import { remarksBelow, scriptsBelow, tableOf } from "../documents.mjs";
 import { remarksOf, remarksOfSource, sourceIn, tableIn, withRemarks } from "../examples.mjs";
-import { Laboratory } from "../controller.mjs";
 import { commentsIn, headOf, linesIn } from "../lines.mjs";
 import { answerScript, bytesOf, textOf } from "../module/session.mjs";
-import { LANGUAGES } from "../words.mjs";
 import { ModuleLink } from "../module_link.mjs";
+import { LANGUAGES } from "../words.mjs";
 
 const top = join(dirname(fileURLToPath(import.meta.url)), "../..");
 const shelf = join(top, "examples");
@@ -70,7 +70,7 @@ test("comments are found where they are, and a sign after = is none", () => {
 });
 
 test("a script that is open has its comments in another language, and what is left of a run stays", { skip }, async () => {
-    const laboratory = new Laboratory(new ModuleLink(module));
+    const laboratory = new Controller(new ModuleLink(module));
     await laboratory.open();
     const [name, script] = scripts.find(([it]) => it === "self-modifying");
     await laboratory.openScript(name, script);

@@ -30,7 +30,7 @@ async function visited(name, touches) {
     }
     assert.deepEqual([wrong, [...seen].filter((state) => !STATES.includes(state)), exhibit.labels.length], [[], [], 4], name);
     await exhibit.attract();
-    assert.deepEqual([laboratory.printed.count, laboratory.deeds.behind <= 1, exhibit.isAttract], [0, true, true], name);
+    assert.deepEqual([laboratory.printed.count, laboratory.history.behind <= 1, exhibit.isAttract], [0, true, true], name);
     exhibit.end();
     drive.halt();
     await laboratory.settled();
@@ -55,7 +55,7 @@ async function restsIn({ exhibit, laboratory, drive }, state) {
 test("a story goes order by order: Next plays one, Back takes it back, Once more plays it again; after eight orders it goes to the end, which asks, and from there on", { skip }, async () => {
     const all = await exhibited("message");
     const { laboratory, exhibit } = all;
-    const where = () => [exhibit.state, exhibit.at, laboratory.deeds.behind];
+    const where = () => [exhibit.state, exhibit.at, laboratory.history.behind];
     await exhibit.attract();
     assert.deepEqual(exhibit.labels, ["kioskBegin", null, "kioskMatches", "kioskLanguage"]);
     await exhibit.press(1);
@@ -144,6 +144,6 @@ test("where nothing may move captions follow one another, the machine stands, an
     assert.equal(laboratory.panel.status, "halted operator");
     await exhibit.press(1);
     await exhibit.press(2);
-    assert.deepEqual([exhibit.at, laboratory.deeds.behind], [2, 2]);
+    assert.deepEqual([exhibit.at, laboratory.history.behind], [2, 2]);
     exhibit.end();
 });

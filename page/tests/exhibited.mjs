@@ -2,12 +2,12 @@
 import { existsSync, readFileSync, readdirSync } from "node:fs";
 import { dirname, join } from "node:path";
 import { fileURLToPath } from "node:url";
+import { Controller } from "../controller.mjs";
 import { Drive } from "../drive.mjs";
 import { Exhibit } from "../exhibit.mjs";
-import { Laboratory } from "../controller.mjs";
+import { ModuleLink } from "../module_link.mjs";
 import { Player } from "../player.mjs";
 import { GAMES } from "../views/game.mjs";
-import { ModuleLink } from "../module_link.mjs";
 
 const top = join(dirname(fileURLToPath(import.meta.url)), "../..");
 const module = join(top, "page/module/lgp_c_region.wasm");
@@ -33,7 +33,7 @@ export function chance(seed) {
 export async function exhibited(name, isStill = false, more = {}) {
     const time = { now: 0 };
     const clocks = { now: () => time.now, sleep: async (milliseconds) => { time.now += milliseconds; await tick(); } };
-    const laboratory = new Laboratory(new ModuleLink(module));
+    const laboratory = new Controller(new ModuleLink(module));
     await laboratory.open();
     const player = new Player();
     const drive = new Drive(laboratory, player, () => laboratory.run(), clocks);

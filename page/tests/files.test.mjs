@@ -1,8 +1,9 @@
 // Files and links, and lines that come back, without a browser.
 import assert from "node:assert/strict";
 import { test } from "node:test";
-import { Earlier, pasted } from "../line_history.mjs";
 import { linkOf, unopened } from "../files.mjs";
+import { LineHistory } from "../line_history.mjs";
+import { pasted } from "../lines.mjs";
 import { askedIn } from "../opening.mjs";
 
 test("a file that is no script is named, before anything is done", () => {
@@ -22,11 +23,11 @@ test("a link holds the script, and a script that is too long has none", () => {
 });
 
 test("lines come back one before another, and the draft after the last", () => {
-    const earlier = new Earlier();
-    assert.deepEqual([earlier.back("x"), earlier.forward()], [null, null]);
-    for (const line of ["run 1", "panel", "panel", ""]) earlier.add(line);
-    assert.deepEqual([earlier.back("dra"), earlier.back("panel"), earlier.back("run 1")], ["panel", "run 1", null]);
-    assert.deepEqual([earlier.forward(), earlier.forward(), earlier.forward()], ["panel", "dra", null]);
+    const history = new LineHistory();
+    assert.deepEqual([history.back("x"), history.forward()], [null, null]);
+    for (const line of ["run 1", "panel", "panel", ""]) history.add(line);
+    assert.deepEqual([history.back("dra"), history.back("panel"), history.back("run 1")], ["panel", "run 1", null]);
+    assert.deepEqual([history.forward(), history.forward(), history.forward()], ["panel", "dra", null]);
 });
 
 test("what is pasted is the lines that it has; the last one stays to be sent", () => {

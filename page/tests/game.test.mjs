@@ -4,11 +4,11 @@ import { existsSync, readFileSync } from "node:fs";
 import { dirname, join } from "node:path";
 import { test } from "node:test";
 import { fileURLToPath } from "node:url";
-import { Laboratory } from "../controller.mjs";
+import { Controller } from "../controller.mjs";
 import { linesIn } from "../lines.mjs";
+import { ModuleLink } from "../module_link.mjs";
 import { GAMES, asksOf, numberIn, saidOn, standsIn } from "../views/game.mjs";
 import { textsIn } from "../words.mjs";
-import { ModuleLink } from "../module_link.mjs";
 
 const top = join(dirname(fileURLToPath(import.meta.url)), "../..");
 const module = join(top, "page/module/lgp_c_region.wasm");
@@ -25,7 +25,7 @@ test("what a game sends are lines of its example's script", () => {
 /** The game at its first turn. */
 async function opened() {
     const [name, game] = [...GAMES][0];
-    const laboratory = new Laboratory(new ModuleLink(module));
+    const laboratory = new Controller(new ModuleLink(module));
     await laboratory.open();
     await laboratory.openForShow(name, scriptOf(name));
     laboratory.questionsToo = asksOf(game, laboratory.labels);

@@ -4,10 +4,10 @@ import { existsSync, readFileSync } from "node:fs";
 import { dirname, join } from "node:path";
 import { test } from "node:test";
 import { fileURLToPath } from "node:url";
-import { GAMES, Game, PROGRAMS, roundIn } from "../placing_game.mjs";
-import { Laboratory } from "../controller.mjs";
-import { ModuleLink } from "../module_link.mjs";
+import { Controller } from "../controller.mjs";
 import { setUpFor } from "../lesson_steps.mjs";
+import { ModuleLink } from "../module_link.mjs";
+import { PLACING_GAMES, PlacingGame, PROGRAMS, roundIn } from "../placing_game.mjs";
 
 globalThis.document ??= {};
 const { distanceOf } = await import("../views/hand.mjs");
@@ -49,7 +49,7 @@ test("a round is what lies between the last two times that the loop began", () =
 
 /** What a program of the game takes, as the page asks it. */
 async function askedOf({ example, words }) {
-    const laboratory = new Laboratory(new ModuleLink(module));
+    const laboratory = new Controller(new ModuleLink(module));
     await laboratory.open();
     await setUpFor(laboratory, { opens: example }, (name) => readFileSync(join(top, `examples/${name}.txt`), "utf8"));
     await laboratory.run();
@@ -57,9 +57,9 @@ async function askedOf({ example, words }) {
 }
 
 test("each program of a game has words that may be moved and have something to gain, and a round of whole turns, also where they lie best", { skip }, async () => {
-    for (const program of [...GAMES.values()].flat()) {
+    for (const program of [...PLACING_GAMES.values()].flat()) {
         const told = await askedOf(program);
-        const game = new Game();
+        const game = new PlacingGame();
         game.open(program, told);
         const turns = () => game.round.reduce((sum, { account }) => sum + account.sum, 0) / 64;
         const before = turns();
@@ -73,7 +73,7 @@ test("each program of a game has words that may be moved and have something to g
 });
 
 test("what was played is kept, and what is kept of another program is left", { skip }, async () => {
-    const [one, other] = [new Game(), new Game()];
+    const [one, other] = [new PlacingGame(), new PlacingGame()];
     const told = await askedOf(PROGRAMS[0]);
     for (const game of [one, other]) game.open(PROGRAMS[0], told);
     one.move("0022", 41);

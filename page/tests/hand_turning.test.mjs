@@ -4,12 +4,12 @@ import { existsSync, readFileSync } from "node:fs";
 import { dirname, join } from "node:path";
 import { test } from "node:test";
 import { fileURLToPath } from "node:url";
+import { Controller } from "../controller.mjs";
 import { Drive } from "../drive.mjs";
-import { Laboratory } from "../controller.mjs";
+import { HandTurning } from "../hand_turning.mjs";
+import { setUpFor } from "../lesson_steps.mjs";
 import { ModuleLink } from "../module_link.mjs";
 import { Player } from "../player.mjs";
-import { setUpFor } from "../lesson_steps.mjs";
-import { Turning } from "../hand_turning.mjs";
 
 const top = join(dirname(fileURLToPath(import.meta.url)), "../..");
 const module = join(top, "page/module/lgp_c_region.wasm");
@@ -18,11 +18,11 @@ const exampleOf = (name) => readFileSync(join(top, `examples/${name}.txt`), "utf
 
 /** A hand at the drum of an example that is set going, with what it could not do. */
 async function handAt(name) {
-    const laboratory = new Laboratory(new ModuleLink(module));
+    const laboratory = new Controller(new ModuleLink(module));
     await laboratory.open();
     await setUpFor(laboratory, { opens: name }, exampleOf);
     const player = new Player();
-    const turning = new Turning(laboratory, player, new Drive(laboratory, player, () => laboratory.run(), { now: () => 0, sleep: async () => {} }));
+    const turning = new HandTurning(laboratory, player, new Drive(laboratory, player, () => laboratory.run(), { now: () => 0, sleep: async () => {} }));
     const ends = [];
     turning.addEventListener("end", ({ way }) => ends.push(way));
     return { laboratory, player, turning, ends };
@@ -47,7 +47,7 @@ test("wherever a hand turns the drum to, the machine has performed the orders th
         turning.take();
         await turning.turn(by);
         clock = wanted;
-        assert.deepEqual([turning.clock, laboratory.deeds.behind, ends.length > 0], [clock, clocks.filter((begins) => begins < clock).length - (clock === clocks.at(-1) ? 0 : 0), isEnd], `turn ${turn} by ${by}`);
+        assert.deepEqual([turning.clock, laboratory.history.behind, ends.length > 0], [clock, clocks.filter((begins) => begins < clock).length - (clock === clocks.at(-1) ? 0 : 0), isEnd], `turn ${turn} by ${by}`);
         assert.equal(player.at() === null, clocks.includes(clock), `clock ${clock}`);
         ends.length = 0;
     }
@@ -66,15 +66,15 @@ test("a hand lets the drum go at a whole word time; orders that were not told ar
     const clocks = await clocksOf("self-modifying");
     const { laboratory, turning } = await handAt("self-modifying");
     await laboratory.run();
-    assert.deepEqual([laboratory.accounts.length, laboratory.deeds.behind], [0, 42]);
+    assert.deepEqual([laboratory.accounts.length, laboratory.history.behind], [0, 42]);
     turning.take();
     await turning.turn(-2.4);
     await turning.settle();
-    assert.deepEqual([turning.clock, laboratory.deeds.behind], [2908, 42]);
+    assert.deepEqual([turning.clock, laboratory.history.behind], [2908, 42]);
     await turning.order(-1);
     await turning.order(-1);
-    assert.deepEqual([turning.clock, laboratory.deeds.behind], [clocks[40], 40]);
+    assert.deepEqual([turning.clock, laboratory.history.behind], [clocks[40], 40]);
     // one press after another, none of which waits for the one before
     await Promise.all([turning.order(1), turning.turn(-3), turning.order(1), turning.order(1)]);
-    assert.deepEqual([turning.clock, laboratory.deeds.behind, laboratory.deeds.ahead], [2910, 42, 0]);
+    assert.deepEqual([turning.clock, laboratory.history.behind, laboratory.history.ahead], [2910, 42, 0]);
 });

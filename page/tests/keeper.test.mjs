@@ -20,7 +20,7 @@ const over = async (shelf, clocks) => new Keeper(await openStore({ database: non
 /** Clocks whose time passes when that is wanted. */
 function clocks() {
     const timers = [];
-    return { setTimeout: (deed, milliseconds) => timers.push({ deed, milliseconds }), clearTimeout: () => {}, timers, async pass() { for (const { deed } of timers.splice(0)) await deed(); } };
+    return { setTimeout: (action, milliseconds) => timers.push({ action, milliseconds }), clearTimeout: () => {}, timers, async pass() { for (const { action } of timers.splice(0)) await action(); } };
 }
 
 test("what is kept is written within a second, and is there again", async () => {

@@ -3,17 +3,17 @@ import { existsSync, readFileSync } from "node:fs";
 import { dirname, join } from "node:path";
 import { test } from "node:test";
 import { fileURLToPath } from "node:url";
+import { Controller } from "../controller.mjs";
 import { documentOf, lackingIn, lessonsBelow } from "../documents.mjs";
-import { DEEDS } from "../lesson_solutions.mjs";
-import { Laboratory } from "../controller.mjs";
+import { SOLUTIONS } from "../lesson_solutions.mjs";
+import { solveLesson } from "../lesson_solver.mjs";
+import { LESSONS } from "../lesson_steps.mjs";
 import { lessonIn } from "../lessons.mjs";
 import { signedOf } from "../module/replies.mjs";
-import { solved } from "../lesson_solver.mjs";
-import { LESSONS } from "../lesson_steps.mjs";
+import { ModuleLink } from "../module_link.mjs";
 import { plain } from "../views/lesson.mjs";
 import { TALES } from "../views/tales.mjs";
 import { LANGUAGES } from "../words.mjs";
-import { ModuleLink } from "../module_link.mjs";
 
 const top = join(dirname(fileURLToPath(import.meta.url)), "../..");
 const documents = join(top, "docs/lessons");
@@ -76,12 +76,12 @@ test("the solutions of the lessons are what the machine says", { skip }, async (
         "reading-a-listing": [null, null, "t 0205", "z 0005", null, "295", "256", "4", "00000000"],
         "where-a-word-costs-least": [null, "73", "38", null, "6", "25", "25088", "26", "00"],
     };
-    assert.deepEqual(Object.keys(DEEDS).sort(), LESSONS.map(({ name }) => name).sort());
-    for (const [name, answers] of Object.entries(wanted)) assert.deepEqual((await solved(name)).answers, answers, name);
+    assert.deepEqual(Object.keys(SOLUTIONS).sort(), LESSONS.map(({ name }) => name).sort());
+    for (const [name, answers] of Object.entries(wanted)) assert.deepEqual((await solveLesson(name)).answers, answers, name);
 });
 
 test("the ring of costs on the sheet is the wage's after the whole run", { skip }, async () => {
-    const { laboratory } = await solved("where-a-word-costs-least");
+    const { laboratory } = await solveLesson("where-a-word-costs-least");
     await laboratory.askCosts("0128");
     assert.deepEqual([laboratory.costs.address, laboratory.costs.orders, laboratory.costs.times], ["0128", 2355, 150629]);
 });
@@ -90,7 +90,7 @@ test("the ring of costs on the sheet is the wage's after the whole run", { skip 
 const racesIn = (document) => document.split("\n").filter((line) => /^\| (\d{4} ){5}/.test(line)).map((line) => line.split("|").slice(1, -1).map((cell) => cell.trim()));
 
 test("each row of the race's table is what a profile of that placement tells, in each language", { skip }, async () => {
-    const laboratory = new Laboratory(new ModuleLink(module));
+    const laboratory = new Controller(new ModuleLink(module));
     await laboratory.open();
     const [, written] = /^source\n([^]*?)\n\.\n/m.exec(readFileSync(join(top, "examples/drum/household.txt"), "utf8"));
     const names = ["wage", "rent", "food", "coal", "fares"];
@@ -122,7 +122,7 @@ test("the languages of a lesson have the same numbers in their questions and ste
 });
 
 test("each row of a round of the listing is the account of its order, in each language", { skip }, async () => {
-    const laboratory = new Laboratory(new ModuleLink(module));
+    const laboratory = new Controller(new ModuleLink(module));
     await laboratory.open();
     await laboratory.say(...lessons.en["reading-a-listing"].steps[4].lines, "go 0200", "break 0200");
     await laboratory.run();
@@ -144,7 +144,7 @@ test("each lesson has a document in each language, with as many parts", () => {
 
 /** A laboratory in which lines were done. */
 async function after(...lines) {
-    const laboratory = new Laboratory(new ModuleLink(module));
+    const laboratory = new Controller(new ModuleLink(module));
     await laboratory.open();
     await laboratory.say(...lines);
     return laboratory;

@@ -4,16 +4,16 @@ import { existsSync, readFileSync } from "node:fs";
 import { dirname, join } from "node:path";
 import { test } from "node:test";
 import { fileURLToPath } from "node:url";
-import { ROOM } from "../memory_budget.mjs";
-import { counted } from "../words.mjs";
+import { LIMITS } from "../memory_budget.mjs";
 import { Session, compiled } from "../module/session.mjs";
+import { counted } from "../words.mjs";
 
 const path = join(dirname(fileURLToPath(import.meta.url)), "../module/lgp_c_region.wasm");
 const skip = !existsSync(path);
 
 test("docs/PAGE.md names the bounds", () => {
     const page = readFileSync(join(dirname(path), "../../docs/PAGE.md"), "utf8");
-    const { lines, codes, last, asksAfter, told } = ROOM;
+    const { lines, codes, last, asksAfter, told } = LIMITS;
     const bounds = [`${counted(lines, "en")} bytes of lines`, `${counted(codes - last, "en")} printed codes`, `at most ${counted(codes, "en")}`, `after ${counted(asksAfter, "en")} codes`, `at most ${counted(told, "en")}`];
     assert.deepEqual(bounds.filter((bound) => !page.includes(bound)), []);
 });
@@ -26,18 +26,18 @@ function filled(session) {
         return session.answer(line);
     };
     for (const line of ["put 0000 p =h", "put 0001 u 0000", "press start"]) ask(line);
-    for (let codes = 0; codes < ROOM.codes; codes += 25_000) {
+    for (let codes = 0; codes < LIMITS.codes; codes += 25_000) {
         ask("run 50000");
         ask("printed");
     }
-    while (sent < ROOM.lines) for (const line of ["panel", "words 0000 16", "show 0000 16"]) ask(line);
+    while (sent < LIMITS.lines) for (const line of ["panel", "words 0000 16", "show 0000 16"]) ask(line);
 }
 
 test("within the bounds there is room for a last portion, the longest source, told runs and what is saved", { skip }, () => {
     const session = new Session(compiled(readFileSync(path)));
     filled(session);
-    const source = Array(ROOM.source / 20).fill(" b 0050 ; 012345678");
-    for (const line of ["source", ...source, ".", `trace ${ROOM.told}`, `drum ${ROOM.told}`, "run 200000"]) session.answer(line);
-    assert.ok(session.answer("transcript").length > ROOM.lines + ROOM.source);
-    for (const question of ["printed", "paper"]) assert.ok(session.answer(question).length > ROOM.codes + 100_000, question);
+    const source = Array(LIMITS.source / 20).fill(" b 0050 ; 012345678");
+    for (const line of ["source", ...source, ".", `trace ${LIMITS.told}`, `drum ${LIMITS.told}`, "run 200000"]) session.answer(line);
+    assert.ok(session.answer("transcript").length > LIMITS.lines + LIMITS.source);
+    for (const question of ["printed", "paper"]) assert.ok(session.answer(question).length > LIMITS.codes + 100_000, question);
 });

@@ -34,8 +34,8 @@ export class NativeLink {
     }
 
     /** What is asked at once is asked one after the other. */
-    #inTurn(deed) {
-        const done = this.#last.then(deed);
+    #inTurn(action) {
+        const done = this.#last.then(action);
         this.#last = done.catch(() => {});
         return done;
     }

@@ -4,10 +4,10 @@ import assert from "node:assert/strict";
 import { existsSync } from "node:fs";
 import { test } from "node:test";
 import { fileURLToPath } from "node:url";
-import { Laboratory } from "../controller.mjs";
+import { Controller } from "../controller.mjs";
 import { linesIn, setUp } from "../lines.mjs";
+import { LIMITS, MemoryBudget } from "../memory_budget.mjs";
 import { startsOf } from "../module/replies.mjs";
-import { ROOM, Room } from "../memory_budget.mjs";
 import { ModuleLink } from "../module_link.mjs";
 
 const module = fileURLToPath(new URL("../module/lgp_c_region.wasm", import.meta.url));
@@ -23,7 +23,7 @@ async function after(...lines) {
         return worker.last;
     };
     const askAll = async (all) => (await Promise.all(all.map(ask))).join("");
-    const laboratory = new Laboratory({ opened: Promise.resolve(), ask, askAll });
+    const laboratory = new Controller({ opened: Promise.resolve(), ask, askAll });
     await laboratory.open();
     await laboratory.say(...lines);
     return laboratory;
@@ -31,8 +31,8 @@ async function after(...lines) {
 
 test("operate counts as a run where it has not pressed Start; else the orders of its last run can be gone back over, and no others", async () => {
     for (const [line, behind] of [["operate 1", 8], ["operate 100", 2]]) {
-        const { deeds, notice } = await after("run 7", "press start", line);
-        assert.deepEqual([deeds.behind, notice], [behind, null], line);
+        const { history, notice } = await after("run 7", "press start", line);
+        assert.deepEqual([history.behind, notice], [behind, null], line);
     }
     const { talk } = await after("operate 100");
     assert.deepEqual(talk.at(-1), { line: "operate 100", reply: "ran 2 rest\n        started again at a z after a p: 2\n" });
@@ -47,26 +47,26 @@ test("a script is set up as far as its first operate", () => {
 });
 
 test("operate may perform as many runs as its orders, and one more: what memory holds is as much", () => {
-    const room = new Room();
-    const most = room.mostIn("operate 1000");
-    assert.deepEqual([most, room.mostIn(`operate ${most}`), most * (most + 1) <= ROOM.codes, (most + 1) * (most + 2) > ROOM.codes], [999, null, true, true]);
+    const budget = new MemoryBudget();
+    const most = budget.mostIn("operate 1000");
+    assert.deepEqual([most, budget.mostIn(`operate ${most}`), most * (most + 1) <= LIMITS.codes, (most + 1) * (most + 2) > LIMITS.codes], [999, null, true, true]);
 });
 
 test("operate by the module: the order of its last run is gone back over, and performed again", { skip: !existsSync(module) }, async () => {
-    const laboratory = new Laboratory(new ModuleLink(module));
+    const laboratory = new Controller(new ModuleLink(module));
     await laboratory.open();
     await laboratory.say("put 0000 p =h", "put 0001 z", "put 0002 p =i", "put 0003 z", "put 0004 z", "press start", "operate 100");
-    assert.deepEqual([laboratory.printed.text, laboratory.deeds.behind, laboratory.panel.counter], ["hi", 1, "0005"]);
+    assert.deepEqual([laboratory.printed.text, laboratory.history.behind, laboratory.panel.counter], ["hi", 1, "0005"]);
     await laboratory.back(1);
-    assert.deepEqual([laboratory.deeds.ahead, laboratory.panel.counter], [1, "0004"]);
+    assert.deepEqual([laboratory.history.ahead, laboratory.panel.counter], [1, "0004"]);
     await laboratory.forward(1);
-    assert.deepEqual([laboratory.deeds.behind, laboratory.panel.counter], [1, "0005"]);
+    assert.deepEqual([laboratory.history.behind, laboratory.panel.counter], [1, "0005"]);
 });
 
 /** A laboratory over the module that has answered some lines, and its link. */
 async function overModule(...lines) {
     const link = new ModuleLink(module);
-    const laboratory = new Laboratory(link);
+    const laboratory = new Controller(link);
     await laboratory.open();
     await laboratory.say(...lines);
     return { laboratory, link };
@@ -95,9 +95,9 @@ test("Run halts at a z after a p, and by operate it goes on to the end", { skip:
 test("by operate a machine at rest is told, and the orders of a run without a start can be gone back over", { skip: !existsSync(module) }, async () => {
     const { laboratory } = await overModule("put 0000 b 0002", "put 0001 z", "press start");
     await laboratory.operate();
-    assert.deepEqual([laboratory.notice, laboratory.deeds.behind, laboratory.talk.at(-1)], [null, 2, { line: "operate", reply: "ran 2 rest\n" }]);
+    assert.deepEqual([laboratory.notice, laboratory.history.behind, laboratory.talk.at(-1)], [null, 2, { line: "operate", reply: "ran 2 rest\n" }]);
     await laboratory.operate();
-    assert.deepEqual([laboratory.notice, laboratory.deeds.behind], [{ kind: "atRest" }, 2]);
+    assert.deepEqual([laboratory.notice, laboratory.history.behind], [{ kind: "atRest" }, 2]);
 });
 
 test("a rule stops a run by operate between two prints", { skip: !existsSync(module) }, async () => {
@@ -115,7 +115,7 @@ test("a run by operate that prints much asks whether to go on", { skip: !existsS
     const { laboratory, link } = await overModule(...ENDLESS);
     const { end } = await laboratory.operate();
     assert.deepEqual([end, laboratory.notice], ["printed", { kind: "printedMuch", count: laboratory.printed.count }]);
-    assert.ok(laboratory.printed.count >= ROOM.asksAfter && laboratory.printed.count < ROOM.asksAfter + 2000);
+    assert.ok(laboratory.printed.count >= LIMITS.asksAfter && laboratory.printed.count < LIMITS.asksAfter + 2000);
     assert.ok(runsIn(link).slice(1).every((line) => /^operate \d{3}$/.test(line)), runsIn(link).join());
     assert.equal(laboratory.lastRun.starts, laboratory.printed.count - 1);
 });

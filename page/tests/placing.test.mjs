@@ -5,7 +5,7 @@ import { dirname, join } from "node:path";
 import { test } from "node:test";
 import { fileURLToPath } from "node:url";
 import { SECTORS, sectorOf } from "../addresses.mjs";
-import { Laboratory } from "../controller.mjs";
+import { Controller } from "../controller.mjs";
 import { Checker } from "../language.mjs";
 import { accountsOf, panelOf, reportOf } from "../module/replies.mjs";
 import { ModuleLink } from "../module_link.mjs";
@@ -85,7 +85,7 @@ async function placedAt(source, sectors) {
 for (const [name, source, words, count] of PROGRAMS) {
     test(`${name}: ${count} random placings of three words, assembled, loaded and run, take what was foretold, and so do the drawn waits`, { skip }, async () => {
         const link = new ModuleLink(module);
-        const laboratory = new Laboratory(link);
+        const laboratory = new Controller(link);
         await laboratory.open();
         await laboratory.load(source);
         await laboratory.run();
@@ -103,7 +103,7 @@ for (const [name, source, words, count] of PROGRAMS) {
 }
 
 test("the words of the sum are those of its example, and with three of them elsewhere it takes 2142 word times in place of 2910", { skip }, async () => {
-    const laboratory = new Laboratory(new ModuleLink(module));
+    const laboratory = new Controller(new ModuleLink(module));
     await laboratory.open();
     const words = async () => (await laboratory.drum()).slice(0, 63 * SECTORS).join("");
     await laboratory.load(SUM);
@@ -145,7 +145,7 @@ test("a word has an org before it, and what comes after it another one, where it
 
 test("several words are written elsewhere at once, and the run takes what was foretold; where an order names one by its address nothing is, and its line is that of the source", { skip }, async () => {
     const link = new ModuleLink(module);
-    const laboratory = new Laboratory(link);
+    const laboratory = new Controller(link);
     await laboratory.open();
     await laboratory.load(SUM);
     await laboratory.run();

@@ -5,7 +5,7 @@ import { dirname, join } from "node:path";
 import { test } from "node:test";
 import { fileURLToPath } from "node:url";
 import { trackOf } from "../addresses.mjs";
-import { Laboratory } from "../controller.mjs";
+import { Controller } from "../controller.mjs";
 import { drumRowsOf, heldOf, linesOf, originsOf, paperOf, rulesOf, toldOf } from "../module/replies.mjs";
 import { ModuleLink } from "../module_link.mjs";
 
@@ -18,15 +18,15 @@ const names = readdirSync(join(top, "examples"), { recursive: true }).map(String
 /** A laboratory over the module, and its link. */
 async function opened() {
     const link = new ModuleLink(module);
-    const laboratory = new Laboratory(link);
+    const laboratory = new Controller(link);
     await laboratory.open();
     return { link, laboratory };
 }
 
-/** The lines that a deed sends. */
-async function sentBy(link, deed) {
+/** The lines that an action sends. */
+async function sentBy(link, action) {
     const before = link.sent.length;
-    await deed();
+    await action();
     return link.sent.slice(before);
 }
 
@@ -63,11 +63,11 @@ test("after twenty steps the transcript has the lines that set the machine up, a
 test("a Step after the costs of a word were asked, or the page has shown another part of the drum, asks no more", { skip }, async () => {
     const { link, laboratory } = await opened();
     await laboratory.openScript("self-modifying", exampleNamed("self-modifying"));
-    for (const deed of [() => laboratory.askPlacing([]), () => laboratory.showAt("0500"), () => laboratory.why("0009"), () => laboratory.transcript()]) {
+    for (const action of [() => laboratory.askPlacing([]), () => laboratory.showAt("0500"), () => laboratory.why("0009"), () => laboratory.transcript()]) {
         await laboratory.step(3);
-        await deed();
+        await action();
         const lines = await sentBy(link, () => laboratory.step());
-        assert.ok(lines.length <= 3, `${deed}: ${lines.join("; ")}`);
+        assert.ok(lines.length <= 3, `${action}: ${lines.join("; ")}`);
     }
 });
 

@@ -23,12 +23,12 @@ import { visitsOfEditor } from "./visits_editor.mjs";
 import { visitsOfExamples } from "./visits_examples.mjs";
 import { visitsOfGames } from "./visits_game.mjs";
 import { visitsOfHand } from "./visits_hand.mjs";
-import { visitsOfKept } from "./visits_storage.mjs";
 import { visitsOfKiosk } from "./visits_kiosk.mjs";
+import { lessonVisits } from "./visits_lessons.mjs";
+import { visitsOfLook } from "./visits_look.mjs";
 import { visitsOfPeople } from "./visits_people.mjs";
 import { visitsOfPoints } from "./visits_points.mjs";
-import { visitsOfLook } from "./visits_look.mjs";
-import { lessonVisits } from "./visits_lessons.mjs";
+import { visitsOfStorage } from "./visits_storage.mjs";
 import { visitsOfTasks } from "./visits_tasks.mjs";
 import { visitsOfWishes } from "./visits_wishes.mjs";
 import { visitsOfWorkbench } from "./visits_workbench.mjs";
@@ -147,20 +147,20 @@ async function kiosk(browser) {
 async function kioskStory(browser, buttons) {
     await browser.open(`${address}?kiosk=message&offers=story,matches&lang=en`);
     await press(browser, ".kiosk-told");
-    await browser.waitFor("document.body.dataset.state === 'story' && laboratoryOfPage().deeds.behind === 1");
+    await browser.waitFor("document.body.dataset.state === 'story' && laboratoryOfPage().history.behind === 1");
     assert.deepEqual(await buttons(), ["Back", "Next", "Once more", "To the start"]);
     await browser.waitFor("/^b 0011 .*brings the word at 0011 into the accumulator\\. The drum had to turn \\d+ places to the order and \\d+ to the word/.test(document.querySelector('.kiosk-told').textContent)");
     for (let order = 2; order <= 8; order += 1) {
         await press(browser, "#kiosk-2");
-        await browser.waitFor(`laboratoryOfPage().deeds.behind === ${order}`);
+        await browser.waitFor(`laboratoryOfPage().history.behind === ${order}`);
     }
     assert.equal((await buttons())[1], "To the end");
     await press(browser, "#kiosk-1");
-    await browser.waitFor("laboratoryOfPage().deeds.behind === 7");
+    await browser.waitFor("laboratoryOfPage().history.behind === 7");
     await press(browser, "#kiosk-3");
-    await browser.waitFor("laboratoryOfPage().deeds.behind === 7 && laboratoryOfPage().deeds.ahead === 1");
+    await browser.waitFor("laboratoryOfPage().history.behind === 7 && laboratoryOfPage().history.ahead === 1");
     await press(browser, "#kiosk-2");
-    await browser.waitFor("laboratoryOfPage().deeds.behind === 8");
+    await browser.waitFor("laboratoryOfPage().history.behind === 8");
     await browser.size(1024, 768);
     await picture(browser, "kiosk");
     await browser.size(1500, 1250);
@@ -441,7 +441,7 @@ async function lesson(browser) {
     await browser.value("laboratoryOfPage().step(20)");
     await browser.value("(() => { const it = document.querySelector('.time input'); it.value = '10'; it.dispatchEvent(new Event('change')); })()");
     await settled(browser);
-    assert.equal(await browser.value("laboratoryOfPage().deeds.behind"), 10);
+    assert.equal(await browser.value("laboratoryOfPage().history.behind"), 10);
     await browser.value("laboratoryOfPage().forward(9)");
     await picture(browser, "loop");
     await press(browser, "#go-on");
@@ -1342,7 +1342,7 @@ async function touch(browser) {
     await browser.size(1500, 1250);
 }
 
-const all = { ...visitsOfTasks(address), ...visitsOfGames(address), ...visitsOfHand(address), ...visitsOfExamples(address), ...visitsOfKept(address), ...visitsOfKiosk(address), ...visitsOfLook(address), ...visitsOfPeople(address), ...visitsOfWishes(address), ...visitsOfPoints(address), ...visitsOfEditor(address), ...visitsOfWorkbench(address), kiosk, addresses, changes, thereAndBack, openSource, whatToPress, operated, endlessPrint, firstHour, lesson, stories, scope, doors, look, ...lessonVisits({ address, press, settled, steps, picture, textOf, sideways }), sound, saved, notLost, source, profile, costs, examples, badInput, usedUp, longRun, paces, forPeople, widths, everyone, byKeys, readOut, stillness, touch, withoutWebAssembly, cannotOpen };
+const all = { ...visitsOfTasks(address), ...visitsOfGames(address), ...visitsOfHand(address), ...visitsOfExamples(address), ...visitsOfStorage(address), ...visitsOfKiosk(address), ...visitsOfLook(address), ...visitsOfPeople(address), ...visitsOfWishes(address), ...visitsOfPoints(address), ...visitsOfEditor(address), ...visitsOfWorkbench(address), kiosk, addresses, changes, thereAndBack, openSource, whatToPress, operated, endlessPrint, firstHour, lesson, stories, scope, doors, look, ...lessonVisits({ address, press, settled, steps, picture, textOf, sideways }), sound, saved, notLost, source, profile, costs, examples, badInput, usedUp, longRun, paces, forPeople, widths, everyone, byKeys, readOut, stillness, touch, withoutWebAssembly, cannotOpen };
 const wanted = process.env.VISITS?.split(" ") ?? Object.keys(all).filter((name) => !left.includes(name));
 const visits = Object.fromEntries(wanted.map((name) => [name, all[name]]));
 let browser = await Engine.start();

@@ -4,10 +4,10 @@ import { readFileSync } from "node:fs";
 import { dirname, join } from "node:path";
 import { fileURLToPath } from "node:url";
 import { SECTORS, positionOf, sectorAt, sectorOf } from "../addresses.mjs";
-import { GAMES, PROGRAMS } from "../placing_game.mjs";
-import { Laboratory } from "../controller.mjs";
-import { ModuleLink } from "../module_link.mjs";
+import { Controller } from "../controller.mjs";
 import { setUpFor } from "../lesson_steps.mjs";
+import { ModuleLink } from "../module_link.mjs";
+import { PLACING_GAMES, PROGRAMS } from "../placing_game.mjs";
 import { disorder, faint, nameless, noteMouse, unreached } from "./access.mjs";
 import { isAttract, keptIn } from "./visits_kiosk.mjs";
 
@@ -15,7 +15,7 @@ const top = join(dirname(fileURLToPath(import.meta.url)), "../..");
 
 /** What the orders of a program take with each of its words at each sector, as the monitor says, and what they take as it is. */
 async function told({ example, words }) {
-    const laboratory = new Laboratory(new ModuleLink(join(top, "page/module/lgp_c_region.wasm")));
+    const laboratory = new Controller(new ModuleLink(join(top, "page/module/lgp_c_region.wasm")));
     await laboratory.open();
     await setUpFor(laboratory, { opens: example }, (name) => readFileSync(join(top, `examples/${name}.txt`), "utf8"));
     await laboratory.run();
@@ -418,7 +418,7 @@ const WORDS = [["0020", "wage"], ["0021", "rent"], ["0022", "debt"]];
 
 /** What its orders take with each of its words at each sector, as a laboratory without a page says. */
 async function costsOfSource() {
-    const laboratory = new Laboratory(new ModuleLink(join(top, "page/module/lgp_c_region.wasm")));
+    const laboratory = new Controller(new ModuleLink(join(top, "page/module/lgp_c_region.wasm")));
     await laboratory.open();
     await laboratory.load(LABELLED);
     await laboratory.command("press start");
@@ -532,7 +532,7 @@ async function notCarried(browser, address) {
 
 /** The lesson about places leads to its race, with one word, and from there to all five; its steps are where they were when one comes back. */
 async function race(browser, address) {
-    const [wage] = GAMES.get("race");
+    const [wage] = PLACING_GAMES.get("race");
     const costs = await told(wage);
     await forget(browser, address);
     await browser.open(`${address}?lang=en&lesson=where-a-word-costs-least`);
@@ -571,11 +571,11 @@ async function reached(browser, address) {
 /** The drum of Work or Learn as it is turned: what the slider says, whether an order is under way, the machine's clock, and the ring's angle. */
 const turnedNow = (browser) => browser.value(`(() => {
     const turner = document.querySelector(".drum .turner");
-    return { says: turner.getAttribute("aria-valuetext"), isMoving: document.querySelector(".drum-box").dataset.moving === "true", clock: Number(laboratoryOfPage().panel.clock), angle: document.querySelector(".drum .ring").style.transform, count: document.querySelector(".drum .hub-count").textContent, behind: laboratoryOfPage().deeds.behind };
+    return { says: turner.getAttribute("aria-valuetext"), isMoving: document.querySelector(".drum-box").dataset.moving === "true", clock: Number(laboratoryOfPage().panel.clock), angle: document.querySelector(".drum .ring").style.transform, count: document.querySelector(".drum .hub-count").textContent, behind: laboratoryOfPage().history.behind };
 })()`);
 
 /** Waits until the drum stands at a clock, and a number of orders has been done. */
-const standsAt = (browser, clock, orders) => browser.waitFor(`/^clock ${clock}(, |$)/.test(document.querySelector(".drum .turner").getAttribute("aria-valuetext")) && laboratoryOfPage().deeds.behind === ${orders}`);
+const standsAt = (browser, clock, orders) => browser.waitFor(`/^clock ${clock}(, |$)/.test(document.querySelector(".drum .turner").getAttribute("aria-valuetext")) && laboratoryOfPage().history.behind === ${orders}`);
 
 /** By keys the drum turns on and back, place by place and order by order, on through orders that are performed and back through those that were; where it cannot go it says so. */
 async function turnedByKeys(browser, address) {

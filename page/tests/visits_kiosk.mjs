@@ -23,7 +23,7 @@ async function kioskBeside(browser, address) {
         await settled(browser);
         assert.match(await browser.value("location.search"), /kiosk=self-modifying/);
         await strike(browser, "1");
-        await browser.waitFor("laboratoryOfPage().deeds.behind === 1");
+        await browser.waitFor("laboratoryOfPage().history.behind === 1");
         await browser.waitFor("document.querySelector('.rewriting')?.textContent === 'The program has rewritten itself: r 0017 at 0000 turned u 0000 at 0017 into u 0002.'");
         assert.deepEqual(await browser.value("[document.querySelectorAll('#leave-kiosk, #page a').length, document.getElementById('progress').checkVisibility()]"), [0, false]);
         await go(browser);
@@ -55,9 +55,9 @@ async function kioskReturns(browser, address) {
     await strike(browser, "2");
     assert.equal(await browser.value("document.body.dataset.state"), "attract");
     await strike(browser, "1");
-    await browser.waitFor("laboratoryOfPage().deeds.behind === 1 && document.body.dataset.state === 'story'");
+    await browser.waitFor("laboratoryOfPage().history.behind === 1 && document.body.dataset.state === 'story'");
     await strike(browser, "2");
-    await browser.waitFor("laboratoryOfPage().deeds.behind === 2");
+    await browser.waitFor("laboratoryOfPage().history.behind === 2");
     await strike(browser, "4");
     await browser.waitFor(isAttract);
     for (const kind of ["contextmenu", "dragstart", "selectstart"]) assert.equal(await browser.value(`document.querySelector('.kiosk-told').dispatchEvent(new Event('${kind}', { bubbles: true, cancelable: true }))`), false, kind);
@@ -77,7 +77,7 @@ async function kioskKeepsNothing(browser, address) {
     const before = await keptIn(browser);
     await browser.press("#kiosk-4");
     await browser.press("#kiosk-1");
-    await browser.waitFor("laboratoryOfPage().deeds.behind === 1");
+    await browser.waitFor("laboratoryOfPage().history.behind === 1");
     await browser.press("#kiosk-4");
     await settled(browser);
     await browser.open(`${address}?kiosk=tables/primes&lang=de`);
@@ -126,7 +126,7 @@ async function kioskOnTelephones(browser, address) {
         await browser.size(width, height);
         await browser.open(`${address}?kiosk=${kind}&lang=de`);
         await browser.press(".kiosk-told");
-        await browser.waitFor(kind === "message" ? "laboratoryOfPage().deeds.behind === 1" : "laboratoryOfPage().way.kind === 'keys'");
+        await browser.waitFor(kind === "message" ? "laboratoryOfPage().history.behind === 1" : "laboratoryOfPage().way.kind === 'keys'");
         await settled(browser);
         const trouble = await browser.value(`(() => {
             const boxes = [...document.querySelectorAll(".kiosk-told, .kiosk-bar button, .others button, .plate b, .colours > span, .trace-name, .sheet, .heap svg, .heap p, .drum-box .well")].filter((it) => it.checkVisibility()).map((it) => [it, it.getBoundingClientRect()]);
@@ -156,7 +156,7 @@ async function kioskCaptions(browser, address) {
 
 /** What leads to each state of the kiosk, and what holds there. */
 const STATES = {
-    attract: [[], isAttract], story: [["1", "2", "2"], "laboratoryOfPage().deeds.behind === 3"], matches: [["3"], "laboratoryOfPage().way.kind === 'keys'"],
+    attract: [[], isAttract], story: [["1", "2", "2"], "laboratoryOfPage().history.behind === 3"], matches: [["3"], "laboratoryOfPage().way.kind === 'keys'"],
     end: [["1"], "document.body.dataset.state === 'end' && laboratoryOfPage().panel.status === 'halted stop'"],
     faster: [["2"], "document.body.dataset.state === 'faster' && document.querySelector('.faster').getAttribute('aria-busy') === 'false'"],
 };

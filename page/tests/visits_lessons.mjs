@@ -4,7 +4,7 @@ import assert from "node:assert/strict";
 import { dirname, join } from "node:path";
 import { fileURLToPath } from "node:url";
 import { lessonsBelow } from "../documents.mjs";
-import { solved } from "../lesson_solver.mjs";
+import { solveLesson } from "../lesson_solver.mjs";
 import { textsIn } from "../words.mjs";
 import { hiddenTexts, numbersOf, unhit, unseen } from "./seen.mjs";
 
@@ -14,7 +14,7 @@ const NOW = ".lesson li.now";
 const START = ".console button[data-name='start']";
 const rowOf = (address) => `tr[data-address='${address}']`;
 
-/** What a pupil does with hand and eye: each deed is given the browser and the calls of the visits. */
+/** What a pupil does with hand and eye: each action is given the browser and the calls of the visits. */
 const types = (...lines) => async (browser, { settled }) => {
     for (const line of lines) {
         await browser.value(`(() => { const form = document.querySelector("${NOW} .types"); form.querySelector("input").value = ${JSON.stringify(line)}; form.requestSubmit(); })()`);
@@ -32,14 +32,14 @@ const shows = (address) => async (browser, { press }) => {
     await press(browser, ".listing form button");
 };
 const asks = (address) => one(shows(address), presses(`${rowOf(address)} button`));
-const one = (...deeds) => async (browser, calls) => { for (const deed of deeds) await deed(browser, calls); };
+const one = (...actions) => async (browser, calls) => { for (const action of actions) await action(browser, calls); };
 const puts = (...words) => types(...words.map((word) => `put ${word}`));
 const word = (letters) => types(...[...letters].map((letter, place) => `put 000${place} p =${letter}`));
 
 const [drum, scope, phases, clock, paper] = [".drum-box", ".scope", ".phases", ".clock-turn", ".paper"];
 
 /**
- * The steps of the lessons: what is done first, if anything; a usual mistake, as a wrong answer or as a deed, after which the step is not done; and what mends it, if that is more
+ * The steps of the lessons: what is done first, if anything; a usual mistake, as a wrong answer or as an action, after which the step is not done; and what mends it, if that is more
  * than the right answer. `sees` is what the step asks for and looks at.
  */
 const DONE = {
@@ -104,14 +104,14 @@ const next = (browser) => browser.press("#step-next");
 const plainly = (text) => text.replaceAll("`", "");
 
 /** A mistake, and what the page says to it. The first wrong answer is met by the hint, the second by what is right as well. */
-async function errs(browser, calls, { errs: deed, says, isEarly, mends }, { hint: wanted }, right, { text }) {
+async function errs(browser, calls, { errs: action, says, isEarly, mends }, { hint: wanted }, right, { text }) {
     const before = await doneIn(browser);
     if (isEarly !== undefined) {
         await answers(browser, isEarly);
         await hintIs(browser, text("lessonNotThere"));
         await mends(browser, calls);
     }
-    if (deed !== undefined) await deed(browser, calls);
+    if (action !== undefined) await action(browser, calls);
     if (says !== undefined) await answers(browser, says);
     await hintIs(browser, plainly(wanted));
     assert.deepEqual(await unseen(browser, [`${NOW} .hint`]), []);
@@ -120,9 +120,9 @@ async function errs(browser, calls, { errs: deed, says, isEarly, mends }, { hint
     return hintIs(browser, plainly(`${wanted} ${text("lessonWouldBe", { answer: right })}`));
 }
 
-/** One lesson in one language, step by step. `atStep` is called before each step's deeds. */
+/** One lesson in one language, step by step. `atStep` is called before each step's actions. */
 async function goThrough(browser, calls, name, code, atStep = () => {}) {
-    const [written, texts, { answers: right }] = [lessons[code][name], textsIn(code), await solved(name)];
+    const [written, texts, { answers: right }] = [lessons[code][name], textsIn(code), await solveLesson(name)];
     await calls.press(browser, `[data-lesson="${name}"]`);
     await browser.value("document.activeElement.blur()");
     for (const [place, step] of DONE[name].entries()) {

@@ -55,13 +55,13 @@ async function oneStory(browser, address) {
         await isHere(other, 1);
         await browser.waitFor(`!(${isMoving})`);
         await settled(browser);
-        assert.deepEqual(await browser.value("[laboratoryOfPage().deeds.behind, laboratoryOfPage().lines.filter((line) => line === 'press start').length]"), [{ wait: 1, rewrite: 9 }[other], 1], `${one}, ${other}`);
+        assert.deepEqual(await browser.value("[laboratoryOfPage().history.behind, laboratoryOfPage().lines.filter((line) => line === 'press start').length]"), [{ wait: 1, rewrite: 9 }[other], 1], `${one}, ${other}`);
     }
     await browser.value("(() => { for (let pressed = 0; pressed < 2; pressed += 1) document.querySelector('#caption-next').click(); })()");
     await isHere("wait", 3);
     await browser.waitFor(`!(${isMoving})`);
     await settled(browser);
-    assert.equal(await browser.value("laboratoryOfPage().deeds.behind"), 3);
+    assert.equal(await browser.value("laboratoryOfPage().history.behind"), 3);
 }
 
 /** The hall has a machine of its own: the visitor's does not work there, and where it rests the hall turns all the same. */

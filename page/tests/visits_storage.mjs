@@ -156,8 +156,8 @@ async function undo(browser, address) {
     await browser.value("laboratoryOfPage().say('put 0000 b 0003', 'put 0003 = 4', 'press start', 'run 1')");
     await writeAll(browser);
     const before = await panelOf(browser);
-    for (const deed of [() => press(browser, "#new"), () => choose(browser, "example", "first-run"), () => choose(browser, "example", "drum/household")]) {
-        await deed();
+    for (const action of [() => press(browser, "#new"), () => choose(browser, "example", "first-run"), () => choose(browser, "example", "drum/household")]) {
+        await action();
         await browser.waitFor("document.querySelector('#notice:not([hidden]) button') !== null");
         assert.notDeepEqual(await panelOf(browser), before);
         await browser.press("#notice button");
@@ -330,4 +330,4 @@ async function languageKept(browser, address) {
 const VISITS = { eachControl, undo, afterNew, exampleFromAnywhere, tenWorks, stepsByAddress, places, languageKept };
 
 /** The visits of the page at an address, by their names. */
-export const visitsOfKept = (address) => Object.fromEntries(Object.entries(VISITS).map(([name, visit]) => [name, (browser) => visit(browser, address)]));
+export const visitsOfStorage = (address) => Object.fromEntries(Object.entries(VISITS).map(([name, visit]) => [name, (browser) => visit(browser, address)]));

@@ -58,7 +58,7 @@ async function withoutMotion(browser, address) {
     assert.deepEqual(await browser.value("[document.body.dataset.state, document.querySelector('.drum-box').dataset.moving, document.getAnimations().length]"), ["attract", "false", 0]);
     for (const [button, orders] of [[1, 1], [2, 2], [2, 3], [1, 2]]) {
         await browser.press(`#kiosk-${button}`);
-        await browser.waitFor(`laboratoryOfPage().deeds.behind === ${orders}`);
+        await browser.waitFor(`laboratoryOfPage().history.behind === ${orders}`);
         await settled(browser);
         assert.deepEqual(await browser.value("[document.querySelector('.drum-box').dataset.moving, document.getAnimations().length]"), ["false", 0]);
     }

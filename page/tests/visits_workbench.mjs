@@ -70,10 +70,10 @@ async function notWhole(browser, hasCard) {
 
 /** In each state, at each size and under each tab no text is too small or cut off, and each control is hit by itself. */
 async function seenWhole(browser, address) {
-    for (const [code, [state, [behind, deed]]] of ["en", "de"].flatMap((it) => Object.entries(STATES).filter(([name]) => it === "en" || IN_GERMAN.includes(name)).map((entry) => [it, entry]))) {
+    for (const [code, [state, [behind, action]]] of ["en", "de"].flatMap((it) => Object.entries(STATES).filter(([name]) => it === "en" || IN_GERMAN.includes(name)).map((entry) => [it, entry]))) {
         await browser.size(...SIZES[0]);
         await browser.open(`${address}?lang=${code}&door=work${behind}`);
-        await deed(browser);
+        await action(browser);
         for (const [width, height] of [...SIZES, [1280, 720], [768, 1024]]) {
             await browser.size(width, height);
             await browser.waitFor("(innerWidth <= 760) === (document.querySelector('.phone-tabs .tablist') !== null)");
@@ -128,7 +128,7 @@ async function lastOrders(browser, address) {
     assert.equal(await browser.value("document.querySelectorAll('.accounts .account-bar .piece').length > 40"), true);
     const { clock } = await browser.value("(({ clock }) => ({ clock: String(clock) }))(laboratoryOfPage().accounts.at(-3))");
     await press(browser, ".accounts tbody tr:not(.below):nth-of-type(1) button");
-    assert.equal(await browser.value("laboratoryOfPage().deeds.ahead"), 1);
+    assert.equal(await browser.value("laboratoryOfPage().history.ahead"), 1);
     await press(browser, "#step");
     await browser.halt();
     await browser.value("[...document.querySelectorAll('.accounts tbody tr:not(.below) button')][2].click()");
@@ -181,7 +181,7 @@ async function paceRow(browser, address) {
     if (await browser.value("document.hasFocus()")) {
         await browser.strike("ArrowRight");
         await settled(browser);
-        assert.deepEqual(await browser.value("[document.activeElement.getAttribute('aria-valuetext'), laboratoryOfPage().deeds.behind]"), ["order 41 of 42", 41]);
+        assert.deepEqual(await browser.value("[document.activeElement.getAttribute('aria-valuetext'), laboratoryOfPage().history.behind]"), ["order 41 of 42", 41]);
         await browser.strike("ArrowLeft");
         await settled(browser);
     }

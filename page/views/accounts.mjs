@@ -80,14 +80,14 @@ export function makeTime(laboratory, { text, code }, showing) {
     const number = (value) => counted(value, code);
     const line = makeTimeline(laboratory, showing, (orders) => text("untoldOrders", { orders: number(orders) }));
     const goTo = (at) => {
-        const { behind } = laboratory.deeds;
+        const { behind } = laboratory.history;
         if (at < behind) laboratory.back(behind - at);
         else if (at > behind) laboratory.forward(at - behind);
     };
     const slider = h("input", { type: "range", min: 0, max: 0, step: 1, "aria-label": text("slider"), onchange: () => goTo(Number(slider.value)) });
     const [told, clock] = [h("output"), h("span", { class: "clock-turn" })];
     const show = () => {
-        const { behind, ahead, forgotten } = laboratory.deeds;
+        const { behind, ahead, forgotten } = laboratory.history;
         slider.max = String(behind + ahead);
         slider.value = String(behind);
         slider.disabled = behind + ahead === 0;

@@ -54,7 +54,7 @@ export function tell(node, text) {
 const plain = (unused, value) => (typeof value === "bigint" ? String(value) : value);
 
 /** Makes a node for what is to be shown under a name, and only where that is something else than before. */
-export function kept(make) {
+export function memoized(make) {
     const nodes = new Map();
     return (name, shown) => {
         const key = JSON.stringify(shown, plain);
@@ -64,8 +64,8 @@ export function kept(make) {
 }
 
 /** A control that does something only while it is live; while it is dead, a press says why, or does nothing. */
-export const guarded = (text, attributes, deed, whenDead = () => {}) => {
-    const control = button(text, () => (control.getAttribute("aria-disabled") === "true" ? whenDead() : deed()), attributes);
+export const guarded = (text, attributes, action, whenDead = () => {}) => {
+    const control = button(text, () => (control.getAttribute("aria-disabled") === "true" ? whenDead() : action()), attributes);
     return control;
 };
 

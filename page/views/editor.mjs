@@ -98,11 +98,11 @@ function find(cm) {
 }
 
 /** The keys of the editor. Tab leaves it. */
-const keysOf = (deeds, completes) => ({
+const keysOf = (actions, completes) => ({
     "Tab": false, "Shift-Tab": false, "Enter": newLine, "Ctrl-Space": completes, "Ctrl-F": find, "Cmd-F": find,
-    ...Object.fromEntries(Object.entries(deeds).map(([key, deed]) => [key, () => deed()])),
+    ...Object.fromEntries(Object.entries(actions).map(([key, action]) => [key, () => action()])),
     // for the moment in which an open list is made anew it hears no key itself
-    "Esc": (cm) => (cm.state.completionActive?.widget == null ? deeds.Esc?.() : cm.closeHint()),
+    "Esc": (cm) => (cm.state.completionActive?.widget == null ? actions.Esc?.() : cm.closeHint()),
 });
 
 function makeCodeMirror(name, texts, place) {
@@ -201,15 +201,15 @@ function makeText(cm, changed) {
 }
 
 /**
- * An editor. `changed` is told the text that is written, `deeds` has what its keys do by their names, and `beside` tells for a line what stands beside it: a text that says whether that is
+ * An editor. `changed` is told the text that is written, `actions` has what its keys do by their names, and `beside` tells for a line what stands beside it: a text that says whether that is
  * new, and its nodes by gutter, or null where that is not known; `commentOf` tells what is said of a label that completes a word.
  */
-export function makeEditor(name, texts, { changed, deeds = {}, beside = () => ["", {}], commentOf = (line, rest) => rest, pressed = () => {}, moved = () => {} }) {
+export function makeEditor(name, texts, { changed, actions = {}, beside = () => ["", {}], commentOf = (line, rest) => rest, pressed = () => {}, moved = () => {} }) {
     const node = h("div", { class: "editor" });
     const cm = makeCodeMirror(name, texts, node);
     for (const [attribute, is] of [["role", "textbox"], ["aria-multiline", "true"], ["data-name", `editor-${name}`]]) cm.getInputField().setAttribute(attribute, is);
     const completes = () => complete(cm, texts, commentOf);
-    cm.setOption("extraKeys", keysOf(deeds, completes));
+    cm.setOption("extraKeys", keysOf(actions, completes));
     const text = makeText(cm, changed);
     const gutters = makeGutters(cm, beside);
     cm.on("viewportChange", gutters);

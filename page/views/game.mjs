@@ -23,12 +23,12 @@ export function saidOn({ says }, paper) {
 
 /** The text at the top: what the machine does, or what the visitor can do. */
 export const standsIn = (game, laboratory, { text }, drive) => () => {
-    const { way: { kind }, printed, deeds } = laboratory;
+    const { way: { kind }, printed, history } = laboratory;
     if (drive.pace !== null) return text("gameRuns");
     const said = saidOn(game, printed.text);
     if (kind === "keys") return [...(said.took === null ? [] : [text("gameTook", { took: said.took })]), text("gameYours")].join(" ");
     if (kind === "go") return text("gameGoing");
-    return text(deeds.behind === 0 ? "gameIntro" : { won: "gameWon", lost: "gameLost" }[said.kind] ?? "gameIntro");
+    return text(history.behind === 0 ? "gameIntro" : { won: "gameWon", lost: "gameLost" }[said.kind] ?? "gameIntro");
 };
 
 /** The heap as a drawing: what is left, and the places of what was taken. */

@@ -35,7 +35,7 @@ const IN_TURN = ["find", "seek", "write", "type"];
 const SHORT = 40;
 
 /** The share of the told word times in which the machine waited for its drum, in percent; null where not all orders were told. */
-function waitedIn({ accounts, deeds: { behind, forgotten } }) {
+function waitedIn({ accounts, history: { behind, forgotten } }) {
     if (accounts.length === 0 || accounts.length < behind + forgotten) return null;
     const sum = (of) => accounts.reduce((total, account) => total + of(account), 0);
     return Math.round((100 * sum(({ find, seek }) => Math.max(0, find - 1) + Math.max(0, seek - 1))) / sum((account) => account.sum));
@@ -43,7 +43,7 @@ function waitedIn({ accounts, deeds: { behind, forgotten } }) {
 
 /** What is told at the end of the story: what the machine did, and a question. */
 function endText(laboratory, { text, code }, exhibit) {
-    const { deeds: { behind, forgotten }, panel, printed, way } = laboratory;
+    const { history: { behind, forgotten }, panel, printed, way } = laboratory;
     if (way.kind === "keys") return text("kioskKeys");
     const [paper, waited] = [printed.text.trim(), waitedIn(laboratory)];
     const did = text("kioskDid", { orders: counted(behind + forgotten, code), turns: counted(Math.round(Number(panel.clock) / SECTORS), code) });

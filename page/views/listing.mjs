@@ -1,5 +1,5 @@
 // The words around the counter: the next order lit, changed words in colour with an arrow from the order that wrote them.
-import { button, h, kept, part, refill, s, tell, unseen } from "./dom.mjs";
+import { button, h, memoized, part, refill, s, tell, unseen } from "./dom.mjs";
 import { rewrittenBy } from "./says.mjs";
 
 const NAME_OF_ORDER = /^-?([a-z]) /;
@@ -101,8 +101,8 @@ export function makeListing(laboratory, texts, { held, isFast, hasCosts }, draft
         laboratory.command(`drop ${number}`);
     };
     const rules = h("ul", { class: "rules", "aria-label": text("rules") });
-    const rowOf = kept((shown) => row(shown, texts, ask));
-    const arrowOf = kept(arrow);
+    const rowOf = memoized((shown) => row(shown, texts, ask));
+    const arrowOf = memoized(arrow);
     const showWords = () => {
         const stored = held()?.stored;
         const told = isFast() ? [] : laboratory.accounts.filter((account) => account !== held()).slice(-REWRITTEN_ORDERS);

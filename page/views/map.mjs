@@ -133,7 +133,7 @@ function makeWays({ text }, changed) {
 }
 
 /** What can be done with the word that is chosen, and the place for what the monitor answers. */
-function makeDeeds(laboratory, { text }, chosen, costsAsked) {
+function makeActions(laboratory, { text }, chosen, costsAsked) {
     const answer = h("p", { class: "map-answer", role: "status" });
     const who = async () => { answer.textContent = (await laboratory.why(chosen()) ?? []).join("\n"); };
     const node = h("div", { class: "line" }, button(text("watchAt"), () => laboratory.command(`watch ${chosen()}`), { "data-name": "map-watch" }), button(text("mapWho"), who, { "data-name": "map-who" }), button(text("tab_costs"), () => costsAsked(chosen()), { "data-name": "map-costs" }));
@@ -169,15 +169,15 @@ export function makeMap(laboratory, texts, { playing, isFast }, costsAsked) {
     const shown = { digits: [], used: new Map(), labels: new Map(), next: "0000", chosen: null, passes: true };
     const choose = (address) => {
         if (address === null) return;
-        [shown.chosen, deeds.answer.textContent] = [address, ""];
+        [shown.chosen, actions.answer.textContent] = [address, ""];
         draw();
     };
     const { node: grid, canvas, line, told, ground, drawing } = makeGrid(texts, shown, choose);
-    const deeds = makeDeeds(laboratory, texts, () => shown.chosen, costsAsked);
+    const actions = makeActions(laboratory, texts, () => shown.chosen, costsAsked);
     const draw = () => {
         if (shown.digits.length > 0 && canvas.width > 0) drawing.draw(shown);
         tell(told, shown.chosen === null ? text("mapHint") : toldOf(shown.chosen, shown, texts));
-        deeds.show();
+        actions.show();
     };
     const frame = () => {
         line.hidden = !shown.passes;
@@ -207,5 +207,5 @@ export function makeMap(laboratory, texts, { playing, isFast }, costsAsked) {
         draw();
         frame();
     });
-    return { node: part("map-part", text("tab_map"), ways, grid, deeds.node, deeds.answer), show, frame };
+    return { node: part("map-part", text("tab_map"), ways, grid, actions.node, actions.answer), show, frame };
 }

@@ -39,30 +39,30 @@ function noticeText(notice, laboratory, texts, isKiosk) {
 }
 
 /** A button of a notice, which goes away when it is pressed: the focus goes on to a control that stays. */
-const passing = (label, deed, goesTo) => button(label, () => {
+const passing = (label, action, goesTo) => button(label, () => {
     reveal(goesTo())?.focus();
-    deed();
+    action();
 });
 
-/** What can be done about a notice. `deeds` has `run`, `save`, `anew`, and `goBack`, which goes back to a work. */
-function buttonsOf({ kind, number, lines, work }, laboratory, { text }, isKiosk, deeds) {
+/** What can be done about a notice. `actions` has `run`, `save`, `anew`, and `goBack`, which goes back to a work. */
+function buttonsOf({ kind, number, lines, work }, laboratory, { text }, isKiosk, actions) {
     const run = () => document.getElementById(isKiosk ? "kiosk-1" : "go-on");
-    const goOn = passing(text("goOn"), deeds.run, run);
+    const goOn = passing(text("goOn"), actions.run, run);
     if (kind === "printedMuch") return [goOn];
     if (kind === "rule") return [goOn, passing(text("takeOut", { number }), () => laboratory.command(`drop ${number}`), run)];
-    const back = work === undefined ? [] : [passing(text("goBack"), () => deeds.goBack(work), run)];
-    if (["broken", "before"].includes(kind)) return [deeds.linkTo(lines), ...back];
+    const back = work === undefined ? [] : [passing(text("goBack"), () => actions.goBack(work), run)];
+    if (["broken", "before"].includes(kind)) return [actions.linkTo(lines), ...back];
     if (kind === "beforeKept") return back;
     if (kind !== "usedUp") return [];
-    if (isKiosk) return [passing(text("kioskToStart"), deeds.anew, run)];
-    return [button(text("save"), deeds.save), passing(text("new"), deeds.anew, run)];
+    if (isKiosk) return [passing(text("kioskToStart"), actions.anew, run)];
+    return [button(text("save"), actions.save), passing(text("new"), actions.anew, run)];
 }
 
 /** The controls after a text, all in one line. */
 export const waysOut = (...controls) => (controls.length === 0 ? [] : [" ", h("span", { class: "ways-out" }, ...controls.flatMap((control) => [control, " "]).slice(0, -1))]);
 
 /** Shows the notice; it is made anew only where it is another one, so that the focus stays. */
-function makeNotice(laboratory, texts, isKiosk, deeds) {
+function makeNotice(laboratory, texts, isKiosk, actions) {
     const place = document.getElementById("notice");
     let shown;
     return () => {
@@ -71,7 +71,7 @@ function makeNotice(laboratory, texts, isKiosk, deeds) {
         shown = notice;
         place.hidden = notice === null;
         if (notice === null) return place.replaceChildren();
-        const buttons = buttonsOf(notice, laboratory, texts, isKiosk, deeds);
+        const buttons = buttonsOf(notice, laboratory, texts, isKiosk, actions);
         place.replaceChildren(noticeText(notice, laboratory, texts, isKiosk), ...waysOut(...buttons));
     };
 }
@@ -116,8 +116,8 @@ export function placeNotices(slot) {
     if (isWithin) activeElement.focus();
 }
 
-/** What is above the page. `deeds` has `run`, `save`, `anew`, `goBack` and `linkTo`, which makes a link under which lines are saved. */
-export function makeNotices(laboratory, texts, isKiosk, deeds) {
-    const parts = [makeNotice(laboratory, texts, isKiosk, deeds), makeOpenSource(laboratory, texts), makeLost(laboratory, texts, deeds.linkTo)];
+/** What is above the page. `actions` has `run`, `save`, `anew`, `goBack` and `linkTo`, which makes a link under which lines are saved. */
+export function makeNotices(laboratory, texts, isKiosk, actions) {
+    const parts = [makeNotice(laboratory, texts, isKiosk, actions), makeOpenSource(laboratory, texts), makeLost(laboratory, texts, actions.linkTo)];
     return { show: () => parts.forEach((part) => part()) };
 }

@@ -3,11 +3,11 @@ import { unopened } from "../files.mjs";
 import { button, h } from "./dom.mjs";
 
 /** Opens a file of the reader's as a script. One that is none is told, and nothing is changed. */
-export async function openFile(file, laboratory, deed) {
+export async function openFile(file, laboratory, action) {
     const text = await file.text();
     const kind = unopened(text, (command) => laboratory.knows(command));
     if (kind !== null) return laboratory.tell({ kind, detail: file.name });
-    return deed(file.name, text);
+    return action(file.name, text);
 }
 
 /** The button that opens a file. */

@@ -46,7 +46,7 @@ export function makePace(laboratory, texts, drive, { run, when, faults }) {
         const isOn = drive.pace !== null;
         if (goOn.dataset.on !== String(isOn)) signed(goOn, isOn ? "■" : "▶", text(isOn ? "halt" : "goOn")).title = text(isOn ? "haltHint" : "goOnHint");
         goOn.dataset.on = String(isOn);
-        showLive(back, laboratory.deeds.behind > 0);
+        showLive(back, laboratory.history.behind > 0);
         paces.show();
         tell(way, laboratory.openSource === null ? wayNow() : "");
     };

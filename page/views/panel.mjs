@@ -1,7 +1,7 @@
 // The panel: registers as bits with their readings, status, mode and clock.
 import { bitsOf, fractionOf, wholeOf } from "../module/replies.mjs";
 import { counted } from "../words.mjs";
-import { h, kept, part, refill } from "./dom.mjs";
+import { h, memoized, part, refill } from "./dom.mjs";
 
 /** The bits of a word as lamps. The order and the address stand out. */
 function lamps(digits, name) {
@@ -20,7 +20,7 @@ const line = (text) => ({ name, value, digits, reading }) => [h("dt", {}, text(n
 export function makePanel(laboratory, { text, table, code }) {
     const body = h("dl", { class: "registers" });
     const numbers = (digits) => `${text("asWhole")} ${counted(wholeOf(digits), code)}, ${text("asFraction")} ${fractionOf(digits).toFixed(9)}`;
-    const lineOf = kept(line(text));
+    const lineOf = memoized(line(text));
     const show = () => {
         const { panel: { counter, accumulator, register, status, mode, clock }, orderInRegister: order } = laboratory;
         const lines = [

@@ -51,9 +51,9 @@ export function makeTape(laboratory, { text, code }, drafts, { playing }) {
     }).observe(place);
     let coming = 0;
     const show = () => {
-        const { panel, deeds } = laboratory;
+        const { panel, history } = laboratory;
         coming = playing()?.codes ?? 0;
-        const codes = readable(deeds.tape ?? "");
+        const codes = readable(history.tape ?? "");
         const rest = panel.tape + coming;
         const isKnown = codes.length > 0 && rest <= codes.length;
         const left = counted(rest, code);

@@ -1,8 +1,8 @@
 // Make it faster: a game of two minutes with the drum. A loop goes round, and its words are carried to sectors where the machine waits less. What a placing costs are sums of the monitor's
 // numbers; the line on the drum and the bars are drawn only where their sum is that.
 import { SECTORS, inTwoDigits, positionOf, sectorAt, sectorOf } from "../addresses.mjs";
-import { GAMES, Game } from "../placing_game.mjs";
 import { timesOf } from "../placing.mjs";
+import { PLACING_GAMES, PlacingGame } from "../placing_game.mjs";
 import { counted } from "../words.mjs";
 import { button, guarded, h, refill, s, showLive, tell } from "./dom.mjs";
 import { PEN, makeKey, makePicture, passed } from "./drum.mjs";
@@ -193,9 +193,9 @@ function play(game, isStill, frame, ended) {
 }
 
 /** The buttons below. Where the time is over the last one shows the best placing; where that is reached or shown, it leads to another program. */
-function makeFoot(game, { text }, timer, deeds) {
-    const [why, back, watch] = ["why", "back", "watch"].map((name) => guarded("", { id: `faster-${name}` }, deeds[name]));
-    const [best, another] = [button(text("showBest"), () => { deeds.showBest(); back.focus(); }, { id: "faster-best" }), button(text("anotherProgram"), deeds.another, { id: "faster-another", class: "primary" })];
+function makeFoot(game, { text }, timer, actions) {
+    const [why, back, watch] = ["why", "back", "watch"].map((name) => guarded("", { id: `faster-${name}` }, actions[name]));
+    const [best, another] = [button(text("showBest"), () => { actions.showBest(); back.focus(); }, { id: "faster-best" }), button(text("anotherProgram"), actions.another, { id: "faster-another", class: "primary" })];
     const last = h("div", { class: "last" });
     const show = () => {
         const { placing, isShown, isWon, isWhy, watched } = game;
@@ -210,10 +210,10 @@ function makeFoot(game, { text }, timer, deeds) {
 }
 
 /** The game: the drum, and beside it what is told. */
-export class Faster {
+export class PlacingGameView {
     #texts;
     #settings;
-    #game = new Game();
+    #game = new PlacingGame();
     #name = null;
     #round = 0;
     #endWatching = () => {};
@@ -235,7 +235,7 @@ export class Faster {
         this.#drum = makeGameDrum(game, texts, this.#hands());
         this.#words = makeWords(game, texts, (address) => this.#drum.focus(address));
         this.#orders = makeRound(game, texts);
-        const [score, foot] = [makeScore(texts), makeFoot(game, texts, this.#timer, this.#deeds())];
+        const [score, foot] = [makeScore(texts), makeFoot(game, texts, this.#timer, this.#actions())];
         this.#views = [{ show: () => score.show(game.placing) }, this.#words, this.#orders, this.#drum, foot];
         const cabinet = h("div", { class: "cabinet" }, h("div", { class: "stand" }, this.#drum.node), makeKey((phase) => texts.text(`colour_${phase}`)));
         this.node = h("section", { class: "faster", "aria-label": texts.text("faster"), "aria-busy": "true" }, cabinet,
@@ -247,7 +247,7 @@ export class Faster {
         if (name === this.#name) return undefined;
         this.#name = name;
         this.#elsewhere.replaceChildren(...this.#settings.others(name));
-        const programs = GAMES.get(name);
+        const programs = PLACING_GAMES.get(name);
         return this.#open(programs.find((program) => program.name === this.#settings.kept.of()?.[name]) ?? programs[0]);
     }
 
@@ -279,7 +279,7 @@ export class Faster {
         if (number < 3) this.#carry(number === 1 ? -1 : 1);
         if (number < 4) return true;
         if (this.#game.isWon || this.#game.isShown) return false;
-        this.#deeds().showBest();
+        this.#actions().showBest();
         return true;
     }
 
@@ -303,9 +303,9 @@ export class Faster {
     }
 
     /** What the buttons do. */
-    #deeds() {
+    #actions() {
         const game = this.#game;
-        const changed = (deed) => () => { this.stop(); deed(); this.#show(); this.#told(); };
+        const changed = (action) => () => { this.stop(); action(); this.#show(); this.#told(); };
         return { why: changed(() => { game.isWhy = !game.isWhy; }), back: changed(() => (game.isShown ? game.showBest() : game.reset())), watch: () => this.#watch(), showBest: changed(() => game.showBest()), another: () => this.#another() };
     }
 
@@ -330,7 +330,7 @@ export class Faster {
     }
 
     async #another() {
-        const programs = GAMES.get(this.#name);
+        const programs = PLACING_GAMES.get(this.#name);
         await this.#open(programs[(programs.indexOf(this.#game.program) + 1) % programs.length]);
         this.#drum.focus(this.#game.picked);
     }

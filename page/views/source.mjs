@@ -73,7 +73,7 @@ export function makeVerdict(texts, editor) {
 }
 
 /** What is done with the source by keys and buttons. */
-function makeDeeds(laboratory, { text }, state, { runIt, checker, editor, verdict }) {
+function makeActions(laboratory, { text }, state, { runIt, checker, editor, verdict }) {
     const written = () => editor().value();
     const run = async () => {
         await runIt(written());
@@ -91,10 +91,10 @@ function makeDeeds(laboratory, { text }, state, { runIt, checker, editor, verdic
 }
 
 /** The editor of the source with its card, and the line below it. */
-function makeWriting(laboratory, texts, state, deeds, changed) {
+function makeWriting(laboratory, texts, state, actions, changed) {
     const commentOf = (line, rest) => [state.isFresh ? state.said?.placeOf(line) : "", rest].filter(Boolean).join(" ");
-    const keys = { "Ctrl-Enter": deeds.run, "Cmd-Enter": deeds.run, F8: () => verdict.next(), F9: () => deeds.stopAt(editor.line()), Esc: () => card.close() };
-    const editor = makeEditor("source", texts, { changed, deeds: keys, beside: besideOf(laboratory, state), pressed: deeds.stopAt, moved: () => { if (card.isOpen()) card.light(); }, commentOf });
+    const keys = { "Ctrl-Enter": actions.run, "Cmd-Enter": actions.run, F8: () => verdict.next(), F9: () => actions.stopAt(editor.line()), Esc: () => card.close() };
+    const editor = makeEditor("source", texts, { changed, actions: keys, beside: besideOf(laboratory, state), pressed: actions.stopAt, moved: () => { if (card.isOpen()) card.light(); }, commentOf });
     const card = makeCard(texts, editor.operation);
     const verdict = makeVerdict(texts, () => editor);
     return { editor, card, verdict };
@@ -119,13 +119,13 @@ export function makeSource(laboratory, texts, drafts, { runIt, checker, told, is
     const { text } = texts;
     const state = newState();
     const now = () => drafts.of("source") ?? laboratory.source;
-    const deeds = makeDeeds(laboratory, texts, state, { runIt, checker, editor: () => editor, verdict: () => verdict });
+    const actions = makeActions(laboratory, texts, state, { runIt, checker, editor: () => editor, verdict: () => verdict });
     const changed = (written) => {
         state.shown = written;
         drafts.keep("source", written);
         show();
     };
-    const { editor, card, verdict } = makeWriting(laboratory, texts, state, deeds, changed);
+    const { editor, card, verdict } = makeWriting(laboratory, texts, state, actions, changed);
     state.shown = editor.value();
     let also = "";
     const showSaid = () => {
@@ -149,8 +149,8 @@ export function makeSource(laboratory, texts, drafts, { runIt, checker, told, is
         editor.light(isLoaded ? state.said.lineAt(laboratory.panel.counter) : null);
         if (node.checkVisibility() && !isFast()) askDrum(laboratory, state, editor, isLoaded);
     };
-    const run = button(text("runProgram"), deeds.run, { id: "run-program", class: "primary", title: text("runProgramHint") });
-    const buttons = [button(`${text("card")} F1`, card.toggle, { id: "card-open", "aria-controls": "card" }), ...["assemble", "load"].map((name) => button(text(name), deeds[name], { id: name }))];
+    const run = button(text("runProgram"), actions.run, { id: "run-program", class: "primary", title: text("runProgramHint") });
+    const buttons = [button(`${text("card")} F1`, card.toggle, { id: "card-open", "aria-controls": "card" }), ...["assemble", "load"].map((name) => button(text(name), actions[name], { id: name }))];
     const node = part("source", text("source"), h("div", { class: "line" }, ...buttons), editor.node, verdict.node, h("small", { class: "editor-keys" }, text("editorKeys")));
     const faults = () => (state.isFresh && state.said?.refusal === null && !state.said.isRight ? state.said.count : 0);
     return { node, show, run, faults, card, rewrite: editor.rewrite };

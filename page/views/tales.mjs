@@ -21,7 +21,7 @@ export function makeTales(laboratory, { text, table }, drive, { open, viewer, to
     const choices = TALES.map((it) => button(table.tales[it.name].title, () => begin(it), { "data-tale": it.name }));
     const orders = (count) => viewer.tale.plays.slice(0, count).reduce((sum, plays) => sum + plays, viewer.first);
     /** Goes to a place, and waits for what leads there. Whether nothing else was asked for meanwhile. */
-    const turnTo = async (tale, at, deed) => {
+    const turnTo = async (tale, at, action) => {
         round += 1;
         const mine = round;
         drive.halt();
@@ -29,7 +29,7 @@ export function makeTales(laboratory, { text, table }, drive, { open, viewer, to
         caption.setAttribute("aria-busy", "true");
         told();
         show();
-        await deed(() => mine === round);
+        await action(() => mine === round);
         if (mine === round) caption.setAttribute("aria-busy", "false");
         return mine === round;
     };
@@ -39,13 +39,13 @@ export function makeTales(laboratory, { text, table }, drive, { open, viewer, to
             if (isWanted() && chosen.before > 0) await laboratory.step(chosen.before, false);
         });
         if (!isHere) return;
-        viewer.first = laboratory.deeds.behind;
+        viewer.first = laboratory.history.behind;
         await goTo(at);
     };
     const goTo = async (wanted) => {
         const isHere = await turnTo(viewer.tale, wanted, async (isWanted) => {
             await laboratory.settled();
-            const missing = isWanted() ? orders(wanted) - laboratory.deeds.behind : 0;
+            const missing = isWanted() ? orders(wanted) - laboratory.history.behind : 0;
             if (missing > 0) await laboratory.step(missing, false);
             if (missing < 0) await laboratory.back(-missing);
         });

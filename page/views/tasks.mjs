@@ -20,11 +20,11 @@ function nodesOf(text) {
 }
 
 /** Does something with a link to a laboratory of its own, which is ended then. What goes wrong with it is a sentence too. */
-async function withLink(openLink, say, deed) {
+async function withLink(openLink, say, action) {
     const link = openLink();
     try {
         await link.opened;
-        return await deed(link);
+        return await action(link);
     } catch (failure) {
         return { isRight: false, verdict: say("lab-failed", failure.message), missing: [] };
     } finally {
@@ -44,12 +44,12 @@ function makeAnswer({ text }) {
 }
 
 /** What is done with a source by buttons. `now` gives the task that is open, its name, the name of its file, and the source. */
-function makeDeeds({ text }, now, { sentences, code, openLink, answer, setUp, run, begin, takeBack }) {
+function makeActions({ text }, now, { sentences, code, openLink, answer, setUp, run, begin, takeBack }) {
     const say = speaker(sentences);
-    const asked = async (deed) => {
+    const asked = async (action) => {
         const { file } = now();
         answer.show(null);
-        const said = await withLink(openLink, say, deed);
+        const said = await withLink(openLink, say, action);
         if (file === now().file) answer.show(said);
         return said;
     };
@@ -75,7 +75,7 @@ function makeDeeds({ text }, now, { sentences, code, openLink, answer, setUp, ru
         const href = URL.createObjectURL(new Blob([source], { type: "text/plain" }));
         h("a", { href, download: file }).click();
     };
-    const buttons = Object.entries({ check, run: runIt, put, save, begin, takeBack }).map(([name, deed]) => button(text(`${name}Task`), deed, { id: `${name === "takeBack" ? "take-back" : name}-task`, title: text(`${name}TaskHint`) }));
+    const buttons = Object.entries({ check, run: runIt, put, save, begin, takeBack }).map(([name, action]) => button(text(`${name}Task`), action, { id: `${name === "takeBack" ? "take-back" : name}-task`, title: text(`${name}TaskHint`) }));
     return { node: h("div", { class: "line" }, ...buttons), showBack: (isThere) => { buttons.at(-1).hidden = !isThere; } };
 }
 
@@ -97,7 +97,7 @@ export function makeTasks(texts, { tasks, sentences }, { sources, openLink, chec
     let editor = null;
     const fill = (source) => {
         if (editor === null) {
-            editor = makeEditor("task", texts, { changed, deeds: { F8: () => verdict.next() } });
+            editor = makeEditor("task", texts, { changed, actions: { F8: () => verdict.next() } });
             desk.prepend(editor.node);
         }
         if (editor.value() !== source) editor.set(source);
@@ -116,7 +116,7 @@ export function makeTasks(texts, { tasks, sentences }, { sources, openLink, chec
     };
     const begin = () => { sources.begin(sources.open); open(sources.open); };
     const takeBack = () => { sources.takeBack(sources.open); open(sources.open); editor.focus(); };
-    const buttons = makeDeeds(texts, now, { sentences: { ...sentences.en, ...sentences[code] }, code, openLink, answer, setUp, run, begin, takeBack });
+    const buttons = makeActions(texts, now, { sentences: { ...sentences.en, ...sentences[code] }, code, openLink, answer, setUp, run, begin, takeBack });
     const desk = h("div", { class: "task-desk" }, verdict.node, buttons.node, answer.node);
     const node = part("tasks", text("tasksName"), h("div", { class: "task" }, read, desk));
     open(sources.open);

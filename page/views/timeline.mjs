@@ -42,7 +42,7 @@ export function placed(bars, width, isCounted = true) {
 }
 
 /** How many of the orders that can be counted were not told: those before the told ones. */
-export const untoldOf = ({ deeds: { behind, forgotten } }, told) => Math.max(0, behind + forgotten - told);
+export const untoldOf = ({ history: { behind, forgotten } }, told) => Math.max(0, behind + forgotten - told);
 
 /** Draws a bar as dashes. */
 function dashes(pen, { from, width }) {

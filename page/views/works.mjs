@@ -25,10 +25,10 @@ export function listOfWorks(works, { text, code }, open) {
 /** The offer of a work. It is there until it is opened or put away. */
 export function makeOffer(work, { text }, { open, forget }) {
     const place = document.getElementById("kept");
-    const end = (deed) => () => {
+    const end = (action) => () => {
         place.hidden = true;
         document.querySelector("#open, .doors a")?.focus();
-        deed();
+        action();
     };
     place.replaceChildren(text("keptSession"), ...waysOut(button(text("openAgain"), end(() => open(work))), button(text("forget"), end(() => forget(work.id)))));
     place.hidden = false;

@@ -1,5 +1,5 @@
 // What is written beside the source: lines for the monitor with their replies, and the lines of a script.
-import { pasted } from "../line_history.mjs";
+import { pasted } from "../lines.mjs";
 import { counted } from "../words.mjs";
 import { button, guarded, h, part, showLive } from "./dom.mjs";
 
@@ -9,7 +9,7 @@ const REPLY_SHOWN = 20_000;
 /** A box for lines to the monitor, with its name and that of its draft: lines that were sent come back by the arrow keys, and several may be pasted. */
 export function makeLineBox(laboratory, { text }, drafts, name, draft) {
     const input = drafts.held(h("input", { class: "wide", "aria-label": name, placeholder: "words 0050 2", autocapitalize: "off", autocomplete: "off", spellcheck: "false" }), draft);
-    const { earlier } = drafts;
+    const { history } = drafts;
     const write = (line) => {
         input.value = line;
         drafts.keep(draft, line === "" ? null : line);
@@ -18,11 +18,11 @@ export function makeLineBox(laboratory, { text }, drafts, name, draft) {
         event.preventDefault();
         const line = input.value;
         write("");
-        earlier.add(line);
+        history.add(line);
         await laboratory.say(line);
     };
     input.addEventListener("keydown", (event) => {
-        const line = event.key === "ArrowUp" ? earlier.back(input.value) : event.key === "ArrowDown" ? earlier.forward() : null;
+        const line = event.key === "ArrowUp" ? history.back(input.value) : event.key === "ArrowDown" ? history.forward() : null;
         if (line === null) return;
         event.preventDefault();
         write(line);
@@ -33,7 +33,7 @@ export function makeLineBox(laboratory, { text }, drafts, name, draft) {
         if (text === null) return;
         event.preventDefault();
         write(text.stays);
-        for (const line of text.lines) earlier.add(line);
+        for (const line of text.lines) history.add(line);
         laboratory.say(...text.lines);
     });
     const show = () => { input.placeholder = laboratory.openSource === null ? "words 0050 2" : text("sourceLine"); };
