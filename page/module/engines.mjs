@@ -97,7 +97,7 @@ export class ProgramEngine {
 
     async #object() {
         const { value, done } = await this.#objects.next();
-        if (done) throw new Error("the program has ended by itself");
+        if (done) throw new Error("the program ended unexpectedly");
         return JSON.parse(value);
     }
 

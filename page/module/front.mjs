@@ -22,9 +22,9 @@ const TRACE_COLUMNS = 88;
 export const OWN = new Map([
     ["look", { takes: "alone", operands: "", does: "shows the panel in a few lines" }],
     ["around", { takes: "range", operands: "nothing, or ttss, or ttss NUMBER", does: "shows the words around the counter, or around an address" }],
-    ["step", { takes: "number", operands: "nothing, or NUMBER", does: "performs one order, or several, and tells them; s is short for it, c for run, b for back and ? for help" }],
-    ["put-listing", { takes: "address", operands: "ttss WORD, and what comes after them in a listing", does: "puts the word of a line of a listing" }],
-    ["resume", { takes: "alone", operands: "", does: "goes on with the last session that was kept" }],
+    ["step", { takes: "number", operands: "nothing, or NUMBER", does: "performs one order, or several, and shows what each did; s is short for step, c for run, b for back and ? for help" }],
+    ["put-listing", { takes: "address", operands: "ttss WORD, and the rest of the line, as in a listing", does: "puts in the word from a line of a listing" }],
+    ["resume", { takes: "alone", operands: "", does: "continues the last session that was saved" }],
     ["transcript", { takes: "file", operands: "nothing, or FILE", does: "shows the script that leads to the same machine, or writes it to a file" }],
     ["exit", { takes: "alone", operands: "", does: "ends the program, as quit and Ctrl-D do" }],
 ]);
@@ -108,7 +108,7 @@ export class Front {
     #greet() {
         if (this.#shelf.trouble !== null) return this.#note(`nothing of this session is kept: ${this.#shelf.trouble}`);
         const last = this.#shelf.lastSession();
-        if (last !== null) this.#note(`the last session is kept (${last.when.toISOString().slice(0, 16).replace("T", " ")}, lines: ${last.lines.length}): resume goes on with it`);
+        if (last !== null) this.#note(`the last session was saved (${last.when.toISOString().slice(0, 16).replace("T", " ")}, lines: ${last.lines.length}): resume continues it`);
     }
 
     async #prompt() {
@@ -124,14 +124,14 @@ export class Front {
         if (this.#source === null) return;
         if (!this.#isAsked) {
             this.#isAsked = true;
-            return this.#note(`a source is open, lines: ${this.#source.length}. Ctrl-C once more leaves it; a point alone ends it`);
+            return this.#note(`a source is open, lines: ${this.#source.length}. Press Ctrl-C again to abandon it; a line with only a point ends it`);
         }
         const lines = this.#source;
         this.#source = null;
         this.#isAsked = false;
-        if (lines.length === 0) return this.#note("the source was left");
+        if (lines.length === 0) return this.#note("the source was abandoned");
         const file = this.#shelf.leaveSource();
-        this.#note(file === null ? ["the source was left; its lines:", ...lines].join("\n") : `the source was left; its lines are in ${file}`);
+        this.#note(file === null ? ["the source was abandoned; its lines:", ...lines].join("\n") : `the source was abandoned; its lines are in ${file}`);
     }
 
     async #takeSourceLine(line) {
@@ -257,13 +257,13 @@ export class Front {
         const had = await this.#engine.ask("transcript");
         this.#say(await this.#engine.type(line));
         this.#shelf.putSessionAway();
-        if (had !== "" && this.#shelf.trouble === null) this.#note("what was here is kept: resume goes on with it");
+        if (had !== "" && this.#shelf.trouble === null) this.#note("the session before this one was saved: resume continues it");
     }
 
     /** Does the lines of the last session again. */
     async #resume() {
         const last = this.#shelf.lastSession();
-        if (last === null) return this.#note("no session is kept");
+        if (last === null) return this.#note("no session has been saved");
         await this.#engine.type("new");
         this.#shelf.putSessionAway();
         let refused = 0;
@@ -274,7 +274,7 @@ export class Front {
             await letOthersGo();
         }
         await this.#keep();
-        this.#note(`lines done again: ${last.lines.length}${refused > 0 ? `, refused as they were before: ${refused}` : ""}`);
+        this.#note(`lines repeated: ${last.lines.length}${refused > 0 ? `, refused again: ${refused}` : ""}`);
     }
 
     async #writeTranscript(name) {
@@ -317,6 +317,6 @@ export class Front {
 
     async #sayWhere() {
         const { counter } = panelOf(await this.#engine.ask("json panel-data"));
-        this.#note(`${INDENT}stopped by Ctrl-C before its end, at ${counter}`);
+        this.#note(`${INDENT}stopped early by Ctrl-C, at ${counter}`);
     }
 }

@@ -13,12 +13,12 @@ const STATES = [[...PREPARED, "press manual"], PREPARED];
 const didNothing = (reply) => linesOf(reply).some((line) => line.startsWith("ran 0 ") || line.startsWith("orders 0 "));
 
 const LAST_LINES = [
-    "help GROUP shows the commands of a group, help COMMAND one of them,",
-    "help orders the sixteen orders, and help source the source language.",
+    "help GROUP shows the commands of a group, help COMMAND shows one command,",
+    "help orders shows the sixteen orders, and help source the source language.",
     "Tab completes a word, Ctrl-R searches the lines typed before, Ctrl-C clears the",
     "line or stops a run, and Enter repeats the last step, run or look.",
 ];
-const LINE_OF_A_SOURCE = "A line of a source has a label from its first column on, an operation, its operands, and a comment after a semicolon; each of them may be absent.";
+const LINE_OF_A_SOURCE = "A line of a source has a label, which starts in the first column, an operation, its operands, and a comment after a semicolon; any of them may be missing.";
 
 /** Words in lines of at most 80 columns; all but the first line begin so far in. */
 function wrapped(front, words, indent) {

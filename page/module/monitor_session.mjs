@@ -141,4 +141,4 @@ export class MonitorSession {
 }
 
 /** Why a long tape is not mounted here. */
-export const LONG_TAPE = `more than ${MOUNT_LIMIT} bytes of tape text; the native program mounts it, which ./prove lgp30m makes`;
+export const LONG_TAPE = `more than ${MOUNT_LIMIT} bytes of tape text; only the native program mounts so long a tape; ./prove lgp30m makes it`;

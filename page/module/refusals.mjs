@@ -95,7 +95,7 @@ class Passage {
         if (reason.some(isFault)) this.#found.push(...faultsIn(reason, this.#opened, this.#lines));
         else if (isRefusal(reply)) this.#found.push({ number, line, reason });
         else {
-            this.#found.push({ number, line, reason: [`${refusal}: the monitor has this form, and scripts do not`] });
+            this.#found.push({ number, line, reason: [`${refusal}: only the monitor takes this form; scripts do not have it`] });
             this.#begin();
         }
     }

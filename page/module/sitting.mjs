@@ -26,7 +26,7 @@ export async function sitWith(engine) {
         await new Front({ engine, keyboard, shelf, write, hasColour, isPlain, columns: () => process.stdout.columns || 80 }).sit();
         await engine.close();
     } catch (failure) {
-        if (failure instanceof NoMemory) write("there was not enough memory for this line. The session up to it is kept: resume goes on with it at the next start\n");
+        if (failure instanceof NoMemory) write("there was not enough memory for this line. The session up to this line was saved; at the next start, resume continues it\n");
         throw failure;
     } finally {
         keyboard.close();

@@ -45,7 +45,7 @@ function tell(line) {
     }
 }
 
-const tellWay = (maker) => tell(`${program}: this is the proved module, by way of WebAssembly; ${maker} makes the native program`);
+const tellWay = (maker) => tell(`${program}: this is the proved module, running in WebAssembly; ${maker} makes the native program`);
 
 /** What the module replies to a script, with more memory where that is too little. */
 function repliesTo(script) {
@@ -68,7 +68,7 @@ function answerWhole(script) {
 
 /** Answers the script on standard input when all of it is there. */
 function answerInput() {
-    if (isatty(0)) tell("lgp_lab: the script is answered after Ctrl-D; ./lgp_monitor answers each line");
+    if (isatty(0)) tell("lgp_lab: the script is answered after Ctrl-D; ./lgp_monitor answers line by line");
     return answerWhole(readAll(0));
 }
 
@@ -88,7 +88,7 @@ function sourceIn(name) {
     if (isAsked && isPipe) return "";
     const source = textFrom(readAll(openSync(name, "r")));
     if (source.length <= SOURCE && !hasLine(source, ".") && !source.split("\n").some(isLonger)) return source;
-    if (isPipe) tell(`${program}: the module does not take this source from a pipe: write it to a file`);
+    if (isPipe) tell(`${program}: the module cannot take this source from a pipe; write it to a file first`);
     throw new HandedBack();
 }
 

@@ -5,7 +5,7 @@ import { LONG_TAPE, MOUNT_LIMIT } from "./monitor_session.mjs";
 import { codesOf, isRefusal, refusalOf, tapeTextOf } from "./replies.mjs";
 
 const DEPTH = 16;
-const NATIVE = "no file of this form is read or written here; the native program does that, which ./prove lgp30m makes";
+const NATIVE = "only the native program reads and writes files of this form; ./prove lgp30m makes it";
 /** What is done here with a file, what the native program alone reads from one, and what it alone keeps in one. */
 const WORKS = ["do", "source", "tape", "save", "punch", "restore"];
 const READ_ELSEWHERE = ["archive", "bytes", "restore-simh"];

@@ -22,7 +22,7 @@ test("each fault of a source has the number of its own line, also where the sour
 
 test("what the monitor does for a line that scripts may not have is undone", () => {
     assert.equal(told("put 0000 z\nput 0001 u 0000\nwords 0000 2\nback 1\n"),
-        "it:1: put 0000 z\n    ? 1 Form: the monitor has this form, and scripts do not\nit:2: put 0001 u 0000\n    ? 1 Form: the monitor has this form, and scripts do not\nit:4: back 1\n    ? 7 TooFar 0: only this many orders are kept\n");
+        "it:1: put 0000 z\n    ? 1 Form: only the monitor takes this form; scripts do not have it\nit:2: put 0001 u 0000\n    ? 1 Form: only the monitor takes this form; scripts do not have it\nit:4: back 1\n    ? 7 TooFar 0: only this many orders are kept\n");
 });
 
 test("each example has as many refusals as its replies", () => {

@@ -112,7 +112,7 @@ def lines_that_are_typed():
     terminal.type("\r", "0105 00000000\n0000 going> ")
     shown = terminal.type("transcript\r", "going> ")
     assert "printed\nbreak 0105\nshow 0000 1\nwords 0105 1\nwords 0105 1\n0000" in shown, shown
-    terminal.type("new\r", f"new\nwhat was here is kept: resume goes on with it\n{BEGUN}")
+    terminal.type("new\r", f"new\nthe session before this one was saved: resume continues it\n{BEGUN}")
     terminal.type("transcript\r", f"transcript\n{BEGUN}")
     # a line that begins with # is a line as any other
     terminal.type("# a note\r", f"help lists them all\n{BEGUN}")
@@ -187,7 +187,7 @@ def a_long_run_is_stopped():
     begun = time.monotonic()
     shown = terminal.type(CTRL_C, "0000 going> ")
     assert time.monotonic() - begun < 5, shown
-    assert re.search(r"ran \d+ limit\n        stopped by Ctrl-C before its end, at 0000\n0000 going> $", shown), shown
+    assert re.search(r"ran \d+ limit\n        stopped early by Ctrl-C, at 0000\n0000 going> $", shown), shown
     # one that ends by itself is told as one run
     terminal.type("run 1234567\r", "ran 1234567 limit\n0000 going> ")
     terminal.type("orders 1234567\r", "orders 1234567 going\n0000 going> ")
@@ -211,8 +211,8 @@ def what_is_kept():
     assert source.read_text() == "one z\n"
     terminal = Terminal(state=state)
     shown = terminal.shown(BEGUN)
-    assert re.search(r"the last session is kept \(.*, lines: 2\): resume goes on with it", shown), shown
-    terminal.type("resume\r", "lines done again: 2\n0000 going> ")
+    assert re.search(r"the last session was saved \(.*, lines: 2\): resume continues it", shown), shown
+    terminal.type("resume\r", "lines repeated: 2\n0000 going> ")
     shown = terminal.type("transcript\r", "going> ")
     assert "put 0000 000f0000\npress start\n0000" in shown, shown
     # lines typed at the terminal that was killed are still to be had
@@ -225,7 +225,7 @@ def what_is_kept():
     shown = terminal.type("transcript /nowhere/at/all\r", "going> ")
     assert "? 13 File /nowhere/at/all: it cannot be written" in shown, shown
     terminal.type("new\r", BEGUN)
-    terminal.type("resume\r", "lines done again: 3\n0000 going> ")
+    terminal.type("resume\r", "lines repeated: 3\n0000 going> ")
     terminal.type(CTRL_D, "\n")
     assert terminal.status() == 0
 
@@ -237,7 +237,7 @@ def nothing_can_be_kept():
     terminal.type("source\r", "source> ")
     terminal.type("one z\r", "source> ")
     terminal.type(CTRL_C, "source> ")
-    terminal.type(CTRL_C, f"the source was left; its lines:\none z\n{BEGUN}")
+    terminal.type(CTRL_C, f"the source was abandoned; its lines:\none z\n{BEGUN}")
     terminal.type(CTRL_D, "\n")
     assert terminal.status() == 0
 

@@ -38,8 +38,8 @@ function inFolder(name, files, body) {
 }
 
 test("one line says which program it is", () => {
-    assert.match(lab([], "panel\n").told, /^lgp_lab: [^\n]*the proved module, by way of WebAssembly; \.\/prove makes [^\n]*\n$/);
-    assert.match(monitor([], "panel\n").told, /^lgp_monitor: [^\n]*the proved module, by way of WebAssembly; \.\/prove lgp30m makes [^\n]*\n$/);
+    assert.match(lab([], "panel\n").told, /^lgp_lab: [^\n]*the proved module, running in WebAssembly; \.\/prove makes [^\n]*\n$/);
+    assert.match(monitor([], "panel\n").told, /^lgp_monitor: [^\n]*the proved module, running in WebAssembly; \.\/prove lgp30m makes [^\n]*\n$/);
 });
 
 test("scripts have the stored replies", () => {
@@ -169,7 +169,7 @@ inFolder("dumps that are none", { odd: "0000 00000001\n", zero: "0000 00000000\n
     ].join("\n"));
 });
 
-const NATIVE = "no file of this form is read or written here; the native program does that, which ./prove lgp30m makes";
+const NATIVE = "only the native program reads and writes files of this form; ./prove lgp30m makes it";
 
 /** What counts for a line's room is the text of the codes: line ends and groups of codes with signs have none, and no group is cut in two. */
 inFolder("tapes of many lines and groups", {
@@ -178,7 +178,7 @@ inFolder("tapes of many lines and groups", {
 }, (here) => {
     const { text } = monitor([], "tape lines\ntape groups\ntape cut\ntape long\ntape bad\ntape empty\n", here);
     assert.deepEqual(text.trimEnd().split("\n"), [
-        "ok 4090", "ok 1200", "ok 4090", "? 13 File long: more than 4090 bytes of tape text; the native program mounts it, which ./prove lgp30m makes",
+        "ok 4090", "ok 1200", "ok 4090", "? 13 File long: more than 4090 bytes of tape text; only the native program mounts so long a tape; ./prove lgp30m makes it",
         "? 13 File bad: the byte at place 4860, counting from 0, in line 61, does not begin a tape sign", "ok 0",
     ]);
 });
@@ -189,7 +189,7 @@ inFolder("tapes", { tape: "l2\n[16][02]'\n", cut: "[1\n6]", bad: "12\n3Q", long:
     assert.equal(text, [
         "ok 5", "? 13 File cut: the byte at place 0, counting from 0, in line 1, does not begin a tape sign",
         "? 13 File bad: the byte at place 4, counting from 0, in line 2, does not begin a tape sign",
-        "? 13 File long: more than 4090 bytes of tape text; the native program mounts it, which ./prove lgp30m makes",
+        "? 13 File long: more than 4090 bytes of tape text; only the native program mounts so long a tape; ./prove lgp30m makes it",
         `? 13 File archive: ${NATIVE}`, "mount 12[16]0'", "",
     ].join("\n"));
 });
