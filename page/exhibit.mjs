@@ -1,6 +1,6 @@
 // The exhibit at the kiosk: a program that plays by itself until somebody touches it, a story of its first orders, an end that asks a question, and games; and four buttons in each of these
 // states. Nothing here knows of a page.
-import { GAMES, asksOf } from "./views/game.mjs";
+import { KIOSK_GAMES, asksOf } from "./views/kiosk_game.mjs";
 
 /** The example that a kiosk shows where its address names none, and its game; the seconds without input after which it begins anew; how many orders its story has; how long it rests at the end; and where
  * nothing may move, how long a caption stands. */
@@ -44,7 +44,7 @@ export class Exhibit extends EventTarget {
     constructor(laboratory, drive, asked, settings) {
         super();
         [this.#laboratory, this.#drive, this.#settings, this.#asked] = [laboratory, drive, { views: {}, language: () => {}, offers: null, ...settings }, asked];
-        const isGame = GAMES.has(asked);
+        const isGame = KIOSK_GAMES.has(asked);
         this.name = asked !== null && !isGame && settings.scriptOf(asked) !== undefined ? asked : KIOSK.example;
         const there = OFFERS.filter((name) => name !== "faster" || "faster" in this.#settings.views);
         this.#offers = isGame ? ["matches"] : there.filter((name) => this.#settings.offers?.includes(name) ?? true);
@@ -58,7 +58,7 @@ export class Exhibit extends EventTarget {
 
     /** The game that is open, or undefined. */
     get game() {
-        return this.state === "matches" ? GAMES.get(KIOSK.game) : undefined;
+        return this.state === "matches" ? KIOSK_GAMES.get(KIOSK.game) : undefined;
     }
 
     /** Whether something is offered here. */
@@ -97,7 +97,7 @@ export class Exhibit extends EventTarget {
 
     /** Opens a program, before its start. An example that is not there is told. */
     async #open(name) {
-        const [laboratory, game] = [this.#laboratory, GAMES.get(name)];
+        const [laboratory, game] = [this.#laboratory, KIOSK_GAMES.get(name)];
         await laboratory.openForShow(name, this.#settings.scriptOf(name));
         this.#isBegun = false;
         this.at = 0;

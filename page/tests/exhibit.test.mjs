@@ -3,7 +3,7 @@
 import assert from "node:assert/strict";
 import { test } from "node:test";
 import { KIOSK } from "../exhibit.mjs";
-import { GAMES } from "../views/game.mjs";
+import { KIOSK_GAMES } from "../views/kiosk_game.mjs";
 import { chance, checkOf, examples, exhibited, printedBy, skip, tick } from "./exhibited.mjs";
 
 const TOUCHES = Number(process.env.TOUCHES ?? 40);
@@ -37,7 +37,7 @@ async function visited(name, touches) {
     return seen;
 }
 
-const isLong = (name) => name === KIOSK.example || GAMES.has(name);
+const isLong = (name) => name === KIOSK.example || KIOSK_GAMES.has(name);
 
 for (const name of examples.filter((unused, place) => place % parts === part - 1)) {
     test(`${name}: whatever is pressed at the kiosk, the paper is a beginning of the right text`, { skip }, async () => {

@@ -7,7 +7,7 @@ import { Drive } from "../drive.mjs";
 import { Exhibit } from "../exhibit.mjs";
 import { ModuleLink } from "../module_link.mjs";
 import { Player } from "../player.mjs";
-import { GAMES } from "../views/game.mjs";
+import { KIOSK_GAMES } from "../views/kiosk_game.mjs";
 
 const top = join(dirname(fileURLToPath(import.meta.url)), "../..");
 const module = join(top, "page/module/lgp_c_region.wasm");
@@ -74,7 +74,7 @@ function isPaperOfGame(text) {
 
 /** What checks the paper of an example. */
 export async function checkOf(name) {
-    if (GAMES.has(name)) return isPaperOfGame;
+    if (KIOSK_GAMES.has(name)) return isPaperOfGame;
     const { text, hasEnded } = await printedBy(name);
     return (paper) => text.startsWith(paper) || (!hasEnded && paper.startsWith(text));
 }

@@ -2,7 +2,7 @@
 import { SECTORS } from "../addresses.mjs";
 import { counted } from "../words.mjs";
 import { button, h, tell } from "./dom.mjs";
-import { GAMES, standsIn } from "./game.mjs";
+import { KIOSK_GAMES, standsIn } from "./kiosk_game.mjs";
 import { rewrittenBy } from "./says.mjs";
 import { sentenceOf } from "./story.mjs";
 
@@ -64,7 +64,7 @@ function makeTold(laboratory, texts, showing, exhibit) {
     const { drive, playing, held, isStill } = showing;
     const told = h("p", { class: "kiosk-told", role: "status" });
     const captionOf = makeCaptions();
-    const turn = standsIn([...GAMES.values()][0], laboratory, texts, drive);
+    const turn = standsIn([...KIOSK_GAMES.values()][0], laboratory, texts, drive);
     const happens = () => (isStill() && exhibit.captions > 0 ? text(`kiosk_${IN_TURN[(exhibit.captions - 1) % IN_TURN.length]}`) : drive.pace === null ? text("kioskIntro") : text(`kiosk_${captionOf(happening(playing()))}`));
     const says = { attract: happens, show: happens, matches: turn, end: () => (drive.pace === null ? endText(laboratory, texts, exhibit) : text("kioskRuns")) };
     let shown = null;

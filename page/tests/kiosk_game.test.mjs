@@ -7,7 +7,7 @@ import { fileURLToPath } from "node:url";
 import { Controller } from "../controller.mjs";
 import { linesIn } from "../lines.mjs";
 import { ModuleLink } from "../module_link.mjs";
-import { GAMES, asksOf, numberIn, saidOn, standsIn } from "../views/game.mjs";
+import { KIOSK_GAMES, asksOf, numberIn, saidOn, standsIn } from "../views/kiosk_game.mjs";
 import { textsIn } from "../words.mjs";
 
 const top = join(dirname(fileURLToPath(import.meta.url)), "../..");
@@ -16,7 +16,7 @@ const skip = !existsSync(module);
 const scriptOf = (name) => readFileSync(join(top, `examples/${name}.txt`), "utf8");
 
 test("what a game sends are lines of its example's script", () => {
-    for (const [name, { set, moves }] of GAMES) {
+    for (const [name, { set, moves }] of KIOSK_GAMES) {
         const lines = new Set(linesIn(scriptOf(name)));
         for (const line of [...set, ...moves, "press start"]) assert.ok(lines.has(line), `${name}: ${line}`);
     }
@@ -24,7 +24,7 @@ test("what a game sends are lines of its example's script", () => {
 
 /** The game at its first turn. */
 async function opened() {
-    const [name, game] = [...GAMES][0];
+    const [name, game] = [...KIOSK_GAMES][0];
     const laboratory = new Controller(new ModuleLink(module));
     await laboratory.open();
     await laboratory.openForShow(name, scriptOf(name));

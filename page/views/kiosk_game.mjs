@@ -3,7 +3,7 @@
 import { h, s } from "./dom.mjs";
 
 /** The games by their examples: the lines that set the switches, those of the moves, the labels of the heap and of its number at first with the place of their point, and what the paper says. */
-export const GAMES = new Map([["games/matches", {
+export const KIOSK_GAMES = new Map([["games/matches", {
     set: ["press bp8 down"], moves: ["type 1'", "type 2'", "type 3'"], heap: { labels: ["left", "matches"], point: 29 },
     says: { won: /^you win$/, lost: /^i win$/, took: /i take (\d)$/ },
 }]]);
