@@ -1,4 +1,4 @@
-// Does the lessons as a pupil does who makes no mistake, and so has the answers of their steps from the module. The sheets and the tests of the lessons are made from this.
+// Solves the lessons over the module as a pupil does who makes no mistake, and so has the answers of their steps. The sheets and the tests of the lessons are made from this.
 import { readFileSync } from "node:fs";
 import { dirname, join } from "node:path";
 import { fileURLToPath } from "node:url";
