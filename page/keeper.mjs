@@ -21,6 +21,9 @@ export class Keeper {
     #clocks;
     #isLeft = false;
 
+    /** Is told what was written, as values by their names. */
+    onWritten = () => {};
+
     /** A keeper over a store; one without a store has what it is given as long as the page is open. */
     constructor(store = null, clocks = globalThis) {
         this.#store = store ?? { values: new Map(), unwritten: new Map(), isKept: false, write: async () => {}, writeAtLast: () => {} };
@@ -43,10 +46,15 @@ export class Keeper {
         return [...this.#store.values.keys()].filter((name) => name.startsWith(beginning));
     }
 
-    /** Keeps a value; null is none. */
-    keep(name, value) {
+    /** Takes over a value that another tab has written. */
+    take(name, value) {
         if (value === null) this.#store.values.delete(name);
         else this.#store.values.set(name, value);
+    }
+
+    /** Keeps a value; null is none. */
+    keep(name, value) {
+        this.take(name, value);
         this.#changed.set(name, value);
         this.#isLeft = false;
         this.#timer ??= this.#clocks.setTimeout(() => this.flush(), KEPT_AFTER);
@@ -59,6 +67,7 @@ export class Keeper {
         [this.#changed, this.#timer, this.#writing] = [new Map(), null, changes];
         try {
             await this.#store.write(changes);
+            this.onWritten(changes);
             this.#store.writeAtLast(this.#isLeft ? this.#changed : new Map());
         } catch {
             this.#changed = new Map([...changes, ...this.#changed]);
@@ -171,6 +180,13 @@ export class Sources {
         this.#keeper.keep(`task/${name}`, null);
     }
 
+    /** Another tab has written a source for a task in place of the one here, which can then be taken back. */
+    writtenElsewhere(name, source) {
+        const [before, here] = [this.#allBefore(name), this.#written(name)];
+        if (here.every((it) => it === source || before.includes(it))) return;
+        this.#keepBefore(name, [...before, ...here]);
+    }
+
     /** Takes back what was there before. What was written since comes after all others, so that each can be had by taking back again. */
     takeBack(name) {
         const before = this.#allBefore(name);
@@ -178,6 +194,18 @@ export class Sources {
         this.#keepBefore(name, [...this.#written(name), ...before]);
         this.#keeper.keep(`task/${name}`, source);
     }
+}
+
+/** Tells the other tabs that have the page open what this one writes, by a channel between them, and hears what they write of tasks. */
+export function shareTasks(channel, keeper, sources) {
+    keeper.onWritten = (changes) => channel.postMessage([...changes]);
+    channel.onmessage = ({ data }) => {
+        for (const [name, value] of data) {
+            const [kind, ...task] = name.split("/");
+            if (kind === "task") sources.writtenElsewhere(task.join("/"), value);
+            if (kind === "before") keeper.take(name, value);
+        }
+    };
 }
 
 /** What was kept by the page as it was before it had a keeper: the last session, and sources of tasks. */

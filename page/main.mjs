@@ -6,7 +6,7 @@ import { withRemarks } from "./examples.mjs";
 import { Exhibit, KIOSK } from "./exhibit.mjs";
 import { linkOf } from "./files.mjs";
 import { HandTurning } from "./hand_turning.mjs";
-import { Keeper, Sources, Works, takeOver } from "./keeper.mjs";
+import { Keeper, Sources, Works, shareTasks, takeOver } from "./keeper.mjs";
 import { Checker } from "./language.mjs";
 import { LESSONS, setUpFor } from "./lesson_steps.mjs";
 import { headOf, linesIn, withoutQuestions } from "./lines.mjs";
@@ -813,6 +813,7 @@ async function openKept() {
     const isAgain = ["reload", "back_forward"].includes(performance.getEntriesByType("navigation")[0]?.type);
     works = new Works(keeper, isAgain ? tab?.getItem(TAB) ?? null : null);
     sources = new Sources(keeper);
+    if (typeof BroadcastChannel === "function") shareTasks(new BroadcastChannel("condugwa"), keeper, sources);
     takeOver(() => localStorage, keeper, works);
     tab?.setItem(TAB, works.id);
     return isAgain ? works.of(works.id) : null;

@@ -2,7 +2,7 @@
 import assert from "node:assert/strict";
 import { test } from "node:test";
 import { Drafts } from "../drafts.mjs";
-import { Keeper, Sources, WORKS, Works, takeOver } from "../keeper.mjs";
+import { Keeper, Sources, WORKS, Works, shareTasks, takeOver } from "../keeper.mjs";
 import { openStore } from "../store.mjs";
 
 /** A storage as browsers have it. */
@@ -142,6 +142,41 @@ test("of a task that is begun anew several times each source can be had again, t
         sources.begin("sum");
     }
     assert.deepEqual([keeper.of("before/sum").length, sources.before("sum")], [10, " 11"]);
+});
+
+/** Tabs that have the page open: of each its sources and its clocks. What one writes the others hear. */
+async function tabs(count) {
+    const [shelf, channels] = [storage(), []];
+    return Promise.all(Array.from({ length: count }, async () => {
+        const time = clocks();
+        const keeper = await over(shelf, time);
+        const sources = new Sources(keeper);
+        const channel = { postMessage: (data) => { for (const other of channels) if (other !== channel) other.onmessage({ data: structuredClone(data) }); } };
+        channels.push(channel);
+        shareTasks(channel, keeper, sources);
+        return { sources, pass: () => time.pass(), again: async () => new Sources(await over(shelf, clocks())) };
+    }));
+}
+
+test("of a task that is open in two tabs neither source is lost", async () => {
+    const [one, other] = await tabs(2);
+    one.sources.keep("sum", " z ; the first");
+    await one.pass();
+    for (const text of [" z", " z ; the", " z ; the second"]) {
+        other.sources.keep("sum", text);
+        await other.pass();
+        await one.pass();
+    }
+    assert.equal(one.sources.of("sum"), " z ; the first");
+    const found = await one.again();
+    assert.deepEqual([found.of("sum"), found.before("sum")], [" z ; the second", " z ; the first"]);
+    one.sources.keep("sum", " z ; the first, longer");
+    await one.pass();
+    await other.pass();
+    assert.deepEqual([(await one.again()).of("sum"), other.sources.before("sum"), other.sources.of("sum")], [" z ; the first, longer", " z ; the second", " z ; the second"]);
+    one.sources.begin("sum");
+    await one.pass();
+    assert.equal(other.sources.of("sum"), " z ; the second");
 });
 
 test("what an earlier page has kept is taken over once", () => {
