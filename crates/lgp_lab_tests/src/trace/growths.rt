@@ -52,7 +52,10 @@ enum Way {
 
 /// Orders as objects of JSON, with these labels.
 fn objects_with(names: &[(Name, u16)]) -> AccountRecords<'_> {
-    AccountRecords { form: Form::Objects, names }
+    AccountRecords {
+        form: Form::Objects,
+        names,
+    }
 }
 
 /// A run of two orders, reported in this way.
