@@ -184,9 +184,9 @@ def test_a_told_run_that_the_clock_breaks_off_is_refused(laboratory, monkeypatch
         laboratory.profile(1000)
 
 
-@pytest.mark.parametrize("said", ["", "state a stop order halted the machine: press start to continue\n"])
-def test_what_is_said_after_a_told_run_is_no_line_of_it(laboratory, monkeypatch, said):
-    monkeypatch.setattr(laboratory, "answer", lambda line: f"ran 0 rest\n{said}")
+@pytest.mark.parametrize("state", ["null", '"a stop order halted the machine: press start to continue"'])
+def test_the_end_of_a_told_run_is_no_record_of_it(laboratory, monkeypatch, state):
+    monkeypatch.setattr(laboratory, "answer", lambda line: f'{{"ran":"0 rest","state":{state}}}\n')
     assert laboratory.trace(1) == []
 
 
