@@ -1,4 +1,4 @@
-// What replies for programs cost. By the module in node: `json source-data` of a source of 4,000 lines, and `look` after each order of a loop.
+// What replies for programs cost. By the module in node: `json source-data` of a source of 4,000 lines, `look`, and an order with its account.
 // By the proved monitor, where ./prove lgp30m has made it and valgrind is installed: the instructions of `json trace-data 1` behind 5,000 orders,
 // so that 4,096 steps are kept: 2,000 lines less 1,000.
 //
@@ -44,12 +44,13 @@ function sourceData() {
     return best(TURNS, () => it.answer("json source-data"));
 }
 
-function look() {
+/** Answers a line after each order of the loop. */
+function afterEach(line) {
     const it = session([...loop, "run 5000"]);
-    return best(200, () => {
-        it.answer("json trace-data 1");
-        it.answer("json look 0000 64 0");
-    });
+    return Math.min(...Array.from({ length: 200 }, () => {
+        it.answer("run 1");
+        return best(1, () => it.answer(line));
+    }));
 }
 
 /** The instructions of the monitor for the loop, 5,000 orders, and so many lines. */
@@ -60,6 +61,7 @@ function instructions(lines) {
 }
 
 console.log(`source-data of ${LINES} lines: ${sourceData().toFixed(1)} ms by the module`);
-console.log(`an order with its account, and a look at 64 words: ${look().toFixed(2)} ms by the module`);
+console.log(`a look at 64 words: ${afterEach("json look 0000 64 0").toFixed(2)} ms by the module`);
+console.log(`an order with its account: ${afterEach("json trace-data 1").toFixed(2)} ms by the module`);
 if (!existsSync(program)) console.log("trace-data: ./prove lgp30m makes the program whose instructions are counted");
 else console.log(`trace-data 1: ${Math.round((instructions(2000) - instructions(1000)) / 1000).toLocaleString("en")} instructions by the monitor`);
