@@ -1,5 +1,5 @@
 // What replies for programs cost. By the module in node: `json source-data` of a source of 4,000 lines, `look`, and an order with its account.
-// By the proved monitor, where ./prove lgp30m has made it and valgrind is installed: the instructions of `json trace-data 1` behind 5,000 orders,
+// By the proved monitor, where ./prove lgp30m has made it and valgrind is installed: the instructions of `json trace-data 1` after 5,000 orders,
 // so that 4,096 steps are kept: 2,000 lines less 1,000.
 //
 //     node bench/replies.mjs
@@ -36,7 +36,7 @@ function session(lines) {
     return it;
 }
 
-/** A source of so many lines, each with a label and an operand that is one. */
+/** A source of 4,000 lines, each with a label and an operand that is one. */
 const source = ["source", ...Array.from({ length: LINES - 2 }, (unused, line) => `l${line} b l${(line * 7) % (LINES - 2)} ; a word of line ${line}`), " end l0", "."];
 
 function sourceData() {
@@ -53,7 +53,7 @@ function afterEach(line) {
     }));
 }
 
-/** The instructions of the monitor for the loop, 5,000 orders, and so many lines. */
+/** The instructions of the monitor for the loop, 5,000 orders, and this number of lines. */
 function instructions(lines) {
     const input = [...loop, "run 5000", ...Array.from({ length: lines }, () => "json trace-data 1"), ""].join("\n");
     const { stderr } = spawnSync("valgrind", ["--tool=callgrind", "--callgrind-out-file=/dev/null", program], { input, encoding: "utf8", maxBuffer: 1 << 28 });

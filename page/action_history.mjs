@@ -1,7 +1,7 @@
 // What was done, as far as it can be gone back over: the orders and the actions of the operator between them. What `back` has undone is
 // kept as well, so that it can be performed again.
 
-/** Splits so many orders off the end of a list of actions: what stays, and what goes. An action is a line, or a number of orders. */
+/** Splits this number of orders off the end of a list of actions: what stays, and what goes. An action is a line, or a number of orders. */
 function split(actions, orders) {
     const gone = [];
     const stays = [...actions];
@@ -76,14 +76,14 @@ export class ActionHistory {
         this.#undone = [...gone, ...this.#undone];
     }
 
-    /** The action that comes next where all is performed again, of at most so many orders; null where there is none. */
+    /** The action that comes next where all is performed again, of at most `limit` orders; null where there is none. */
     next(limit) {
         const action = this.#undone[0];
         if (action === undefined) return null;
         return action.line === undefined ? { orders: Math.min(limit, action.orders) } : action;
     }
 
-    /** Only so many orders can be gone back over: those before are forgotten. */
+    /** Only this number of orders can be gone back over: those before are forgotten. */
     keep(orders) {
         this.#forgotten += Math.max(0, this.behind - orders);
         this.#done = split(this.#done, orders).gone;

@@ -52,7 +52,7 @@ export class Drive extends EventTarget {
         await this.#order(pace);
     }
 
-    /** Goes on in a pace, for so many orders where they are played. The same one again is a halt, but for the fastest, which goes on. */
+    /** Goes on at a pace, for this number of orders where they are played. The same one again is a halt, but for the fastest, which goes on. */
     go(pace, orders = Infinity) {
         if (pace === "fast" && this.pace === "fast") return undefined;
         const wanted = this.pace === pace ? null : pace;

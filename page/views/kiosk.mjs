@@ -135,7 +135,7 @@ export function refuseOthers() {
 /** The key combination that leaves the kiosk. */
 export const isLeaving = ({ key, ctrlKey, shiftKey }) => ctrlKey && shiftKey && key.toLowerCase() === "l";
 
-/** Calls `reset` after so many seconds in which nobody touched the page, and `touched` at each touch, before a button hears it. Returns what ends the watch. */
+/** Calls `reset` after this number of seconds in which nobody touched the page, and `touched` at each touch, before a button hears it. Returns what ends the watch. */
 export function watchIdle(seconds, reset, touched) {
     let timer;
     const again = () => {
