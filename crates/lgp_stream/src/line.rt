@@ -67,6 +67,16 @@ impl LineBytes {
         }
     }
 
+    /// Forgets the bytes.
+    #[tactic(auto, unfolding(crate::specs::KeptLine::kept_of))]
+    fn clear(&mut self)
+        ensures { self.new ≡ kept_of [] }
+    {
+        self.front.clear();
+        self.longer = false;
+        self.blank = true;
+    }
+
     /// The front, at most 4,096 bytes.
     pub fn front(&self) -> &[u8]
         ensures front { result.now ≡ self.now.front }
@@ -153,6 +163,22 @@ impl Line {
         ensures { result ≡ is_unbegun self.now }
     {
         !self.held && self.bytes.front().is_empty()
+    }
+
+    /// The bytes so far, without a carriage return that is held back.
+    pub fn bytes(&self) -> &LineBytes
+        ensures { result.now ≡ self.now.kept }
+    {
+        &self.bytes
+    }
+
+    /// Begins anew.
+    #[tactic(auto, unfolding(crate::specs::OpenLineInside::open_of))]
+    pub fn restart(&mut self)
+        ensures { self.new ≡ open_of [] }
+    {
+        self.bytes.clear();
+        self.held = false;
     }
 
     /// The bytes of a line that a line feed ends: without the carriage return before it.

@@ -59,29 +59,31 @@ struct Stream<T: Speaks> {
     tally: Tally,
 }
 
-impl<T: Speaks> Stream<T> {
-    /// Speaks to a line that has ended.
-    fn finish<W: Sink>(&mut self, line: &LineBytes, writer: &mut W) -> Result<(), StreamFault>
-        ensures spoken { (front : List (List ℕ)) (s : T) (w₀ : Option (List ℕ))
-            (lines : List (List ℕ)) (text : List ℕ)
-            → HasSpoken front T.speech s w₀ (W.contents writer.old) lines
-            self.old.speaker self.old.tally
-            → line.now ≡ kept_of text
-            → OnOk result (HasSpoken front T.speech s w₀ (W.contents writer.new)
-            (lines ++ text ∷ []) self.new.speaker self.new.tally) }
-        ensures stopped { (front : List (List ℕ)) (s : T) (w₀ : Option (List ℕ))
-            (lines : List (List ℕ)) (text : List ℕ)
-            → HasSpoken front T.speech s w₀ (W.contents writer.old) lines
-            self.old.speaker self.old.tally
-            → line.now ≡ kept_of text
-            → IfErr result (λ fault. HasStopped fault w₀ (W.contents writer.new)
-            (front ++ said_to T.speech s (lines ++ text ∷ []))) }
-        ensures cause { IfErr result (λ fault. HasCause fault false (W.failed writer.new)) }
-        ensures line { self.new.line ≡ self.old.line }
-    {
-        self.speaker.speak(line, writer, &mut self.tally)
-    }
+/// Speaks to a line that has ended.
+fn finish<T: Speaks, W: Sink>(
+    speaker: &mut T,
+    line: &LineBytes,
+    writer: &mut W,
+    tally: &mut Tally,
+) -> Result<(), StreamFault>
+    ensures spoken { (front : List (List ℕ)) (s : T) (w₀ : Option (List ℕ))
+        (lines : List (List ℕ)) (text : List ℕ)
+        → HasSpoken front T.speech s w₀ (W.contents writer.old) lines speaker.old tally.old
+        → line.now ≡ kept_of text
+        → OnOk result (HasSpoken front T.speech s w₀ (W.contents writer.new)
+        (lines ++ text ∷ []) speaker.new tally.new) }
+    ensures stopped { (front : List (List ℕ)) (s : T) (w₀ : Option (List ℕ))
+        (lines : List (List ℕ)) (text : List ℕ)
+        → HasSpoken front T.speech s w₀ (W.contents writer.old) lines speaker.old tally.old
+        → line.now ≡ kept_of text
+        → IfErr result (λ fault. HasStopped fault w₀ (W.contents writer.new)
+        (front ++ said_to T.speech s (lines ++ text ∷ []))) }
+    ensures cause { IfErr result (λ fault. HasCause fault false (W.failed writer.new)) }
+{
+    speaker.speak(line, writer, tally)
+}
 
+impl<T: Speaks> Stream<T> {
     /// One byte more.
     fn take<W: Sink>(&mut self, byte: u8, writer: &mut W) -> Result<(), StreamFault>
         ensures taken { (front : List (List ℕ)) (s : T) (w₀ : Option (List ℕ)) (bytes : List ℕ)
@@ -100,8 +102,14 @@ impl<T: Speaks> Stream<T> {
             self.line.push(byte);
             return Ok(());
         }
-        let line = mem::replace(&mut self.line, Line::new()).complete();
-        self.finish(&line, writer)
+        finish(
+            &mut self.speaker,
+            self.line.bytes(),
+            writer,
+            &mut self.tally,
+        )?;
+        self.line.restart();
+        Ok(())
     }
 
     /// More bytes.
@@ -142,7 +150,7 @@ impl<T: Speaks> Stream<T> {
             return Ok(());
         }
         let line = mem::replace(&mut self.line, Line::new()).last();
-        self.finish(&line, writer)
+        finish(&mut self.speaker, &line, writer, &mut self.tally)
     }
 
     /// The text's end: speaks to what is left, and to the end itself.

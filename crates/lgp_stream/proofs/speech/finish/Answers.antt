@@ -1,6 +1,6 @@
 use Rattle.std.proofs.lemmas.Result.{IfErr-weaker}
 use Rattle.lgp_stream.proofs.SpeechLemmas.{HasSpoken-all, HasStopped-spoken}
-use Rattle.lgp_stream.proofs.speech.Stream.finish.Goals as goal
+use Rattle.lgp_stream.proofs.speech.finish.Goals as goal
 
 pub returns-clause-spoken : goal.returns-clause-spoken
 returns-clause-spoken g c = λ front s w₀ lines text spoken kept.
