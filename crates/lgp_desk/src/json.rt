@@ -112,7 +112,8 @@ fn push_reply<A: Allocator>(
     note: &[u8],
     reply: &[u8],
 ) -> Result<(), AllocError>
-    ensures { OnOk result (text.new.items ≡ text.old.items ++ json_reply objects note.now reply.now) }
+    ensures { OnOk result (text.new.items
+        ≡ text.old.items ++ json_reply objects note.now reply.now) }
 {
     text.extend_from_slice(b"\"reply\":[")?;
     push_lines(text, objects, reply)?;

@@ -10,6 +10,7 @@ use Rattle.lgp_fields.specs.Escaped.{escaped, escaped_byte, hex_digit}
 use Rattle.lgp_fields.specs.Plain.{Plain, PlainField, Nothing, Number, Signed, YesNo, Numbers, Text}
 use Rattle.lgp_fields.specs.Printed.{field_json, fields_json, number_json, numbers_text, record_json, separated, signed_text, value_json}
 use Rattle.lgp_fields.specs.ReadBack.{unescaped_at}
+use Rattle.lgp_fields.proofs.ReadBackLaws.{split}
 use Rattle.lgp_fields.specs.Pieces.{in_first, inside, next_depth, next_place, pieces_at}
 
 -- a text in front of the first piece
@@ -75,11 +76,6 @@ escaped_in_string : (sep d : ℕ) (t : List ℕ) → Whole sep 1 d (escaped t)
 unfolding escaped
 escaped_in_string sep d [] = empty sep 1 d
 escaped_in_string sep d (c ∷ more) = joined sep 1 d (escaped_byte c) (escaped more) (byte_in_string sep d c) (escaped_in_string sep d more)
-
-split : (a b : Bool) → (a && b) ≡ true → (a ≡ true) × (b ≡ true)
-split true true is = (refl, refl)
-split true false is = absurd (grind arith)
-split false b is = absurd (grind arith)
 
 plain_in_string : (sep d : ℕ) (t : List ℕ) → list_all is_plain t ≡ true → Whole sep 1 d t
 plain_in_string sep d [] all = empty sep 1 d

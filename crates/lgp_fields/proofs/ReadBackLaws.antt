@@ -30,7 +30,8 @@ byte_back c rest byte =
     let below : c < 256 = grind (arith, nat_tests) in
     by_tests c rest ((c == 34) || (c == 92)) (nat_le 32 c && nat_le c 126) below refl
 
-split : (a b : Bool) → (a && b) ≡ true → (a ≡ true) × (b ≡ true)
+-- both tests of a pair
+pub split : (a b : Bool) → (a && b) ≡ true → (a ≡ true) × (b ≡ true)
 split true true is = (refl, refl)
 split true false is = absurd (grind arith)
 split false b is = absurd (grind arith)

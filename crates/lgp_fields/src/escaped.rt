@@ -1,6 +1,7 @@
 //! The bytes of a text, escaped so that they stand in one line and between quotation marks.
 
-ghost use Rattle.std.specs.Prelude.{◌≡◌, ◌++◌, ◌<◌, OnOk};
+ghost use Rattle.std.specs.Prelude.{◌≡◌, ◌++◌, ◌<◌, ◌==◌, ◌&&◌, ◌||◌, OnOk, nat_le, not};
+ghost use Rattle.std.specs.List.{list_all};
 ghost use Rattle.lgp_fields.specs.Escaped.{escaped, escaped_byte, hex_digit};
 
 use std::alloc::{AllocError, Allocator};
@@ -32,11 +33,29 @@ fn push_byte<A: Allocator>(text: &mut Vec<u8, A>, byte: u8) -> Result<(), AllocE
     text.extend_from_slice(&[b'\\', b'u', b'0', b'0', high, low])
 }
 
+/// Whether a byte is written as itself.
+fn is_itself(byte: u8) -> bool
+    ensures { result ≡ (not (byte == 34 || byte == 92) && (nat_le 32 byte && nat_le byte 126)) }
+{
+    byte != b'"' && byte != b'\\' && 32 <= byte && byte <= 126
+}
+
+/// Whether each byte of a text is.
+fn are_themselves(bytes: &[u8]) -> bool
+    ensures { result ≡ list_all (λ byte. not (byte == 34 || byte == 92)
+        && (nat_le 32 byte && nat_le byte 126)) bytes.now }
+{
+    bytes.iter().all(|byte| is_itself(*byte))
+}
+
 /// Appends the bytes of a text, those escaped that are no printed characters of ASCII, and quotation marks and backslashes.
 #[tactic(auto, unfolding(crate::specs::Escaped::escaped))]
 pub fn push_escaped<A: Allocator>(text: &mut Vec<u8, A>, bytes: &[u8]) -> Result<(), AllocError>
     ensures { OnOk result (text.new.items ≡ text.old.items ++ escaped bytes.now) }
 {
+    if are_themselves(bytes) {
+        return text.extend_from_slice(bytes);
+    }
     for byte in bytes {
         push_byte(text, *byte)?;
     }

@@ -29,23 +29,28 @@ pub fn numbers_are_read_back()
 
 /// A line gives back its key and the text of its value, up to the line feed at its end.
 pub fn lines_are_read_back()
-    ensures key { (key : List ℕ) (value : Plain) → has_no_blank key ≡ true → has_text value ≡ true
-        → key_of (field_line (field key value)) ≡ key }
-    ensures value { (key : List ℕ) (value : Plain) → has_no_blank key ≡ true → has_text value ≡ true
+    ensures key { (key : List ℕ) (value : Plain) → has_no_blank key ≡ true
+        → has_text value ≡ true → key_of (field_line (field key value)) ≡ key }
+    ensures value { (key : List ℕ) (value : Plain) → has_no_blank key ≡ true
+        → has_text value ≡ true
         → value_of (field_line (field key value)) ≡ value_text value ++ codes "\n" }
 {}
 
 /// The fields of an object of JSON are its pieces between commas, and the numbers of an array likewise.
 pub fn objects_are_read_back()
     ensures fields { (first : PlainField) (more : List PlainField)
-        → pieces (byte ",") (inside (record_json (first ∷ more))) ≡ map field_json (first ∷ more) }
+        → pieces (byte ",") (inside (record_json (first ∷ more)))
+        ≡ map field_json (first ∷ more) }
     ensures numbers { (first : ℕ) (more : List ℕ)
-        → pieces (byte ",") (inside (value_json (Numbers (first ∷ more)))) ≡ map number_json (first ∷ more) }
+        → pieces (byte ",") (inside (value_json (Numbers (first ∷ more))))
+        ≡ map number_json (first ∷ more) }
 {}
 
 /// A field of an object of JSON has two pieces, the string of its key and its value.
 pub fn fields_are_read_back()
     ensures pieces { (field : PlainField)
-        → pieces (byte ":") (field_json field) ≡ value_json (Text field.key) ∷ value_json field.value ∷ [] }
-    ensures key { (field : PlainField) → are_bytes field.key ≡ true → string_of (field_json field) ≡ field.key }
+        → pieces (byte ":") (field_json field)
+        ≡ value_json (Text field.key) ∷ value_json field.value ∷ [] }
+    ensures key { (field : PlainField) → are_bytes field.key ≡ true
+        → string_of (field_json field) ≡ field.key }
 {}
