@@ -1,5 +1,5 @@
 # What the scripts of the repository share: which crates a program uses, whether what is built is the proved program of today's sources, and
-# how a program is run by the proved module or without its proofs. Scripts read it; it is not run by itself.
+# how a program is run by the proved module. Scripts read it; it is not run by itself.
 # They set `top`, the repository's folder, and `caller`, the name in front of each line on standard error.
 
 # The status of a launcher that could not run the program, or whose run was cut off.
@@ -129,7 +129,7 @@ run_module() {
 
 # Writes what the program writes for words that ask for its help or its version, as .ci/calls keeps it; fails for all other words.
 write_recorded() {
-    case ${!#} in --help | -h | --version) ;; *) return 1 ;; esac
+    case ${!#} in --help | -h | --version | -V) ;; *) return 1 ;; esac
     awk -v call="\$ $caller $* </dev/null" '
         /^\$ / { is_it = ($0 == call); next }
         is_it && sub(/^> /, "") { print; found = 1 }
@@ -137,24 +137,23 @@ write_recorded() {
     ' "$top/.ci/calls.expected" 2>/dev/null
 }
 
-# Before a run without proofs: help and version need none. Gives up where there is no toolchain either, in a line that names both ways out.
-need_way() {
+# Where neither the proved program nor the module does what the words ask for: help and version are written as they are kept, and all else
+# ends in a line that says what would do it.
+give_up_on() {
+    local way="with the Rattle toolchain ./prove $1 makes the program, once, in half an hour"
+    shift
     [ $# -eq 0 ] || ! write_recorded "$@" || exit 0
-    ! command -v rt >/dev/null 2>&1 || return 0
-    if ! has_node; then
-        give_up "this needs node, 18 or later, which runs the proved module, or the Rattle toolchain, with which ./prove makes the program: neither is installed"
-    elif has_module; then
-        give_up "the proved module cannot do what this command line asks for: it needs the Rattle toolchain, with which ./prove makes the program"
-    fi
-    give_up "the proved module was not made from these sources, so node does not run it: this needs the Rattle toolchain, with which ./prove makes the program"
+    has_node || give_up "the proved program of these sources is not here, nor node, 18 or later, which runs the proved module: $way"
+    has_module || give_up "neither the proved program nor the proved module here was made from these sources: $way"
+    give_up "the proved module cannot do what this command line asks for: $way"
 }
 
-# How a program is run: as the proved program, else by the module, else without its proofs. For tests CONDUGWA_RUN names one of these.
+# How a program is run: as the proved program, else by the module; `none` where neither is there. For tests CONDUGWA_RUN names one of the two.
 way_of() {
     case ${CONDUGWA_RUN-} in
-        program | module | unproved) echo "$CONDUGWA_RUN" ;;
-        '') if is_proved "$1"; then echo program; elif has_module; then echo module; else echo unproved; fi ;;
-        *) give_up "CONDUGWA_RUN may be program, module or unproved, and not '$CONDUGWA_RUN'" ;;
+        program | module) echo "$CONDUGWA_RUN" ;;
+        '') if is_proved "$1"; then echo program; elif has_module; then echo module; else echo none; fi ;;
+        *) give_up "CONDUGWA_RUN may be program or module, and not '$CONDUGWA_RUN'" ;;
     esac
 }
 
@@ -171,55 +170,4 @@ make_scratch() {
     trap 'exit 129' HUP
     trap 'exit 130' INT
     trap 'exit 143' TERM
-}
-
-# The words that hand the run each file that the program's words name, from the folder in which the user stands, in `data`.
-# A run without proofs takes place in a folder of its own: a file named by its whole path is found there, one named by a path
-# below the user's folder is copied, and no other one can be handed over under its name.
-data=()
-hand_over() {
-    local word plain
-    for word in "$@"; do
-        [ -f "$word" ] || continue
-        plain=${word#./}
-        case $plain in
-            /*) continue ;;
-            *=* | .. | ../* | */../* | */..) ;;
-            program | program/* | stdin | stdin/* | stdout | stdout/* | stderr | stderr/*) ;;
-            *)
-                data+=(--data "$plain=$PWD/$plain")
-                continue
-                ;;
-        esac
-        give_up "a run without proofs cannot read a file under the name '$word': give its whole path, or run ./prove first"
-    done
-}
-
-# Runs a program without its proofs, with standard input from a file. What it writes comes when it has ended.
-run_unproved() {
-    local crate=$1 input=$2 status kept
-    shift 2
-    need_toolchain
-    hand_over "$@"
-    cd "$top/crates/$crate" || give_up "$top/crates/$crate is not there"
-    rt try "${data[@]}" -- "$@" <"$input" >"$scratch/output" 2>"$scratch/notes"
-    status=$?
-    if grep -q "^run=ended status=$status " "$scratch/notes"; then
-        # What the monitor saves stays only where it was named by its whole path.
-        if kept=$(grep -am 1 '^saved [^/]' "$scratch/output"); then
-            give_up "a run without proofs keeps files in a folder that is gone when it ends, and this one replies '$kept': give the file's whole path, or run ./prove $crate first"
-        fi
-        # The last two lines are the toolchain's, the ones before them what the program wrote on standard error.
-        head -n -2 "$scratch/notes" >&2
-        cat "$scratch/output" || give_up "the output of the program could not be written"
-        exit "$status"
-    fi
-    if grep -q '^checked: no-answer: the program wrote more than' "$scratch/notes"; then
-        give_up "a run without proofs may write at most 1,048,576 bytes, and this one writes more: ./prove makes the proved program, which has no such limit"
-    fi
-    if grep -q '^checked: no-answer: the program did not end within the time limit' "$scratch/notes"; then
-        give_up "a run without proofs may take at most 60 seconds, and this one takes longer: ./prove makes the proved program, which has no such limit"
-    fi
-    cat "$scratch/notes" >&2
-    give_up "the program did not run to its end; the reason is above"
 }
