@@ -187,6 +187,14 @@ export class Sources {
         this.#keepBefore(name, [...before, ...here]);
     }
 
+    /** A tab that was closed in the same moment as another one had written this under a name: the source of a task can then be taken back. */
+    replaced(name, value) {
+        const [kind, ...words] = name.split("/");
+        const task = words.join("/");
+        if (kind !== "task" || value === null || value.trim() === "" || this.#allBefore(task).includes(value)) return;
+        this.#keepBefore(task, [...this.#allBefore(task), value]);
+    }
+
     /** Takes back what was there before. What was written since comes after all others, so that each can be had by taking back again. */
     takeBack(name) {
         const before = this.#allBefore(name);

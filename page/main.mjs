@@ -813,6 +813,7 @@ async function openKept() {
     const isAgain = ["reload", "back_forward"].includes(performance.getEntriesByType("navigation")[0]?.type);
     works = new Works(keeper, isAgain ? tab?.getItem(TAB) ?? null : null);
     sources = new Sources(keeper);
+    for (const [name, value] of store.replaced) sources.replaced(name, value);
     if (typeof BroadcastChannel === "function") shareTasks(new BroadcastChannel("condugwa"), keeper, sources);
     takeOver(() => localStorage, keeper, works);
     tab?.setItem(TAB, works.id);

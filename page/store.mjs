@@ -2,7 +2,7 @@
 
 const [DATABASE, SHELF, PREFIX] = ["condugwa", "kept", "condugwa/"];
 
-/** The changes of the last moment, which a database may have no time for any more. */
+/** The changes of the last moment, which a database may have no time for any more: each tab has a record of its own, whose name begins so. */
 const LAST_MOMENT = `${PREFIX}last-moment`;
 
 /** How long is waited for a database to open. */
@@ -49,6 +49,8 @@ class Database {
     }
 }
 
+const namesIn = (storage) => Array.from({ length: storage.length }, (unused, place) => storage.key(place));
+
 /** Values in the browser's storage, as JSON. */
 class Shelf {
     #storage;
@@ -58,7 +60,7 @@ class Shelf {
     }
 
     async all() {
-        const names = Array.from({ length: this.#storage.length }, (unused, place) => this.#storage.key(place)).filter((name) => name.startsWith(PREFIX) && name !== LAST_MOMENT);
+        const names = namesIn(this.#storage).filter((name) => name.startsWith(PREFIX) && !name.startsWith(LAST_MOMENT));
         return new Map(names.map((name) => [name.slice(PREFIX.length), JSON.parse(this.#storage.getItem(name))]));
     }
 
@@ -92,32 +94,47 @@ async function firstOf(actions) {
     return null;
 }
 
-/** What is kept: its values by their names, those of them that were written in a last moment alone, and what writes changes. `database` and `storage` give those of the browser; they may fail. */
+/** What is kept: its values by their names, those of them that were written in a last moment alone, what another tab wrote under the same names in its last moment, and what writes changes. `database` and `storage` give those of the browser; they may fail. */
 export async function openStore({ database, storage }) {
     const shelf = had(storage);
     const found = await firstOf([() => Database.open(database()), () => new Shelf(shelf)]);
     const values = found?.values ?? new Map();
-    const unwritten = new Map(ofLastMoment(shelf));
+    const left = recordsIn(shelf);
+    const changes = left.flatMap((record) => record.changes);
+    const unwritten = new Map(changes);
+    const replaced = changes.filter(([name, value]) => unwritten.get(name) !== value);
     for (const [name, value] of unwritten) {
         if (value === null) values.delete(name);
         else values.set(name, value);
     }
-    return { values, unwritten, isKept: found !== null, write: async (changes) => found?.store.write(changes), writeAtLast: (changes) => writeAtLast(shelf, changes) };
+    const own = `${LAST_MOMENT}/${Date.now().toString(36)}-${Math.random().toString(36).slice(2)}`;
+    const read = left.map(({ name }) => name);
+    return { values, unwritten, replaced, isKept: found !== null, write: async (changes) => found?.store.write(changes), writeAtLast: (last) => writeAtLast(shelf, own, read, last) };
 }
 
-function ofLastMoment(shelf) {
+/** The records of a last moment that tabs have left, the oldest tab's first, each with its name and its changes. */
+function recordsIn(shelf) {
     try {
-        return JSON.parse(shelf.getItem(LAST_MOMENT)) ?? [];
+        return namesIn(shelf).filter((name) => name.startsWith(LAST_MOMENT)).sort().map((name) => ({ name, changes: changesIn(shelf, name) }));
     } catch {
         return [];
     }
 }
 
-/** Writes changes at once, as far as the storage takes them; none takes away what was written so. */
-function writeAtLast(shelf, changes) {
+function changesIn(shelf, name) {
     try {
-        if (changes.size === 0) shelf.removeItem(LAST_MOMENT);
-        else shelf.setItem(LAST_MOMENT, JSON.stringify([...changes]));
+        return JSON.parse(shelf.getItem(name)) ?? [];
+    } catch {
+        return [];
+    }
+}
+
+/** Writes changes at once to a tab's own record, as far as the storage takes them; none takes away what was written so. The records that were read when the page was opened go with that: what they say is among the changes, or written. */
+function writeAtLast(shelf, own, read, changes) {
+    try {
+        if (changes.size > 0) shelf.setItem(own, JSON.stringify([...changes]));
+        else shelf.removeItem(own);
+        for (const name of read) shelf.removeItem(name);
     } catch {
         // the database has been asked as well
     }

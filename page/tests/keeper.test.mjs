@@ -58,6 +58,38 @@ test("what was written in the last moment is kept, though no time was left for t
     assert.equal(shelf.getItem("two"), "2");
 });
 
+test("what two tabs wrote in the same last moment is kept, and their records go when it is written", async () => {
+    const shelf = storage();
+    const tab = async () => new Keeper({ ...await openStore({ database: none, storage: () => shelf }), write: () => new Promise(() => {}) }, clocks());
+    const [first, second] = [await tab(), await tab()];
+    first.keep("work/a", "one");
+    second.keep("work/b", "two");
+    first.leave();
+    second.leave();
+    const time = clocks();
+    const third = await over(shelf, time);
+    assert.deepEqual([third.of("work/a"), third.of("work/b"), shelf.length], ["one", "two", 2]);
+    await time.pass();
+    const fourth = await over(shelf, clocks());
+    assert.deepEqual([fourth.of("work/a"), fourth.of("work/b"), shelf.length], ["one", "two", 2]);
+    assert.ok([0, 1].every((place) => !shelf.key(place).startsWith("condugwa/last-moment")));
+});
+
+test("of the sources that two tabs wrote for one task in the same last moment, one is there and the other can be taken back", async () => {
+    const shelf = storage();
+    const tab = async () => new Keeper({ ...await openStore({ database: none, storage: () => shelf }), write: () => new Promise(() => {}) }, clocks());
+    const tabs = [await tab(), await tab()];
+    tabs.forEach((keeper, place) => { keeper.keep("task/sum", ` z ${place}`); keeper.keep("language", "de"); });
+    tabs.forEach((keeper) => keeper.leave());
+    const store = await openStore({ database: none, storage: () => shelf });
+    const sources = new Sources(new Keeper(store, clocks()));
+    for (const [name, value] of store.replaced) sources.replaced(name, value);
+    assert.deepEqual([sources.of("sum"), sources.before("sum")].sort(), [" z 0", " z 1"]);
+    sources.replaced("task/sum", " ");
+    sources.replaced("language", "en");
+    assert.deepEqual([sources.of("sum"), sources.before("sum")].sort(), [" z 0", " z 1"]);
+});
+
 test("what could not be written is tried again, and nothing fails; without a store it is there as long as the page", async () => {
     const time = clocks();
     const written = [];
