@@ -1,7 +1,7 @@
 -- The bytes of texts one after another.
-use Rattle.std.proofs.Common.{◌≡◌, ℕ, ◌/◌, ◌%◌, ◌==◌, ◌&&◌, ◌||◌, Bool, true, false, not, cond, nat_le, codes, List, [], ◌∷◌, ◌++◌, append_assoc, refl}
+use Rattle.std.proofs.Common.{◌≡◌, ℕ, ◌&&◌, Bool, true, false, List, [], ◌∷◌, ◌++◌, append_assoc, refl}
 use Rattle.std.specs.List.{list_all}
-use Rattle.lgp_fields.specs.Escaped.{escaped, escaped_byte, hex_digit}
+use Rattle.lgp_fields.specs.Escaped.{escaped, escaped_byte, is_itself}
 
 pub escaped-append : (a b : List ℕ) → escaped (a ++ b) ≡ escaped a ++ escaped b
 unfolding escaped
@@ -14,18 +14,9 @@ escaped-three t a b c = rw (escaped-append a (b ++ c), escaped-append b c) (simp
 pub escaped-two : (t a b : List ℕ) → (t ++ escaped a) ++ escaped b ≡ t ++ escaped (a ++ b)
 escaped-two t a b = rw (escaped-append a b) (simp append_assoc)
 
--- whether a byte is written as itself
-abbrev pub is_itself : ℕ → Bool
-is_itself c = not (c == 34 || c == 92) && (nat_le 32 c && nat_le c 126)
-
 byte_itself : (c : ℕ) → is_itself c ≡ true → escaped_byte c ≡ c ∷ []
 unfolding escaped_byte
-byte_itself c is = by_tests (c == 34 || c == 92) (nat_le 32 c && nat_le c 126) is where
-  by_tests : (quoted printed : Bool) → (not quoted && printed) ≡ true
-      → cond quoted (92 ∷ c ∷ []) (cond printed (c ∷ []) (codes "\\u00" ++ (hex_digit (c / 16) ∷ hex_digit (c % 16) ∷ []))) ≡ c ∷ []
-  by_tests true printed e = cc
-  by_tests false true e = refl
-  by_tests false false e = cc
+byte_itself c is = rw is refl
 
 pub themselves : (text : List ℕ) → list_all is_itself text ≡ true → escaped text ≡ text
 unfolding escaped

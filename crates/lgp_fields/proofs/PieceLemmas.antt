@@ -1,17 +1,16 @@
 -- A text of JSON is taken to pieces where it was put together.
-use Rattle.std.proofs.Common.{◌≡◌, ℕ, zero, suc, ◌+◌, ◌-◌, ◌*◌, ◌/◌, ◌%◌, ◌<◌, ◌==◌, ◌&&◌, ◌||◌, Bool, true, false, cond, nat_lt, nat_le, List, [], ◌∷◌, ◌++◌, ap, append_assoc, ◌∙◌, sym, arith, refl, codes, map, length, take, drop, subst}
+use Rattle.std.proofs.Common.{◌≡◌, ℕ, zero, suc, ◌-◌, ◌/◌, ◌%◌, ◌<◌, ◌==◌, ◌&&◌, ◌||◌, Bool, true, false, cond, nat_lt, nat_le, List, [], ◌∷◌, ◌++◌, ap, append_assoc, ◌∙◌, sym, arith, refl, codes, map, length, take, subst}
 use Rattle.std.specs.List.{list_all}
 use Rattle.std.specs.Fmt.{decimal, digits, digits_onto, digit_glyph}
 use Rattle.std.proofs.lemmas.Bool.Decides.{nat_tests}
-use Rattle.std.proofs.lemmas.Grind.{common_steps}
 use Rattle.std.proofs.Math.Seq.{take-append_seam}
 use Rattle.std.proofs.lemmas.List.{append-nil, length-append}
-use Rattle.lgp_fields.specs.Escaped.{escaped, escaped_byte, hex_digit}
+use Rattle.lgp_fields.specs.Escaped.{escaped, escaped_byte, hex_digit, is_itself}
 use Rattle.lgp_fields.specs.Plain.{Plain, PlainField, Nothing, Number, Signed, YesNo, Numbers, Text}
 use Rattle.lgp_fields.specs.Printed.{field_json, fields_json, number_json, numbers_text, record_json, separated, signed_text, value_json}
 use Rattle.lgp_fields.specs.ReadBack.{unescaped_at}
 use Rattle.lgp_fields.proofs.ReadBackLaws.{split}
-use Rattle.lgp_fields.specs.Pieces.{in_first, inside, next_depth, next_place, pieces_at}
+use Rattle.lgp_fields.specs.Pieces.{in_first, inside, pieces_at}
 
 -- a text in front of the first piece
 prepend : List ℕ → List (List ℕ) → List (List ℕ)
@@ -58,10 +57,10 @@ after_slash sep d b rest = refl
 hex_in_string : (sep d v : ℕ) → Whole sep 1 d (hex_digit v ∷ [])
 hex_in_string sep d v = in_string_step sep d (hex_digit v) (grind (arith, nat_tests)) (grind (arith, nat_tests))
 
-by_tests : (sep d c : ℕ) (quoted printed : Bool) → ((c == 34) || (c == 92)) ≡ quoted
-    → Whole sep 1 d (cond quoted (92 ∷ c ∷ []) (cond printed (c ∷ []) (92 ∷ 117 ∷ 48 ∷ 48 ∷ hex_digit (c / 16) ∷ hex_digit (c % 16) ∷ [])))
-by_tests sep d c true printed is = after_slash sep d c
-by_tests sep d c false true is = in_string_step sep d c (grind (arith, nat_tests)) (grind (arith, nat_tests))
+by_tests : (sep d c : ℕ) (itself quoted : Bool) → is_itself c ≡ itself
+    → Whole sep 1 d (cond itself (c ∷ []) (cond quoted (92 ∷ c ∷ []) (92 ∷ 117 ∷ 48 ∷ 48 ∷ hex_digit (c / 16) ∷ hex_digit (c % 16) ∷ [])))
+by_tests sep d c true quoted is = in_string_step sep d c (grind (arith, nat_tests)) (grind (arith, nat_tests))
+by_tests sep d c false true is = after_slash sep d c
 by_tests sep d c false false is =
     joined sep 1 d (92 ∷ 117 ∷ []) _ (after_slash sep d 117)
     (joined sep 1 d (48 ∷ []) _ (in_string_step sep d 48 refl refl)
@@ -70,7 +69,7 @@ by_tests sep d c false false is =
 
 byte_in_string : (sep d c : ℕ) → Whole sep 1 d (escaped_byte c)
 unfolding escaped_byte
-byte_in_string sep d c = by_tests sep d c ((c == 34) || (c == 92)) (nat_le 32 c && nat_le c 126) refl
+byte_in_string sep d c = by_tests sep d c (is_itself c) ((c == 34) || (c == 92)) refl
 
 escaped_in_string : (sep d : ℕ) (t : List ℕ) → Whole sep 1 d (escaped t)
 unfolding escaped

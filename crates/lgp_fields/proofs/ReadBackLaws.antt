@@ -1,24 +1,24 @@
 -- What is written in a line is read back.
-use Rattle.std.proofs.Common.{◌≡◌, ℕ, ◌+◌, ◌*◌, ◌/◌, ◌%◌, ◌<◌, ◌==◌, ◌&&◌, ◌||◌, Bool, true, false, cond, nat_lt, nat_le, List, [], ◌∷◌, ◌++◌, ap, append_assoc, ◌∙◌, arith, refl}
+use Rattle.std.proofs.Common.{◌≡◌, ℕ, ◌+◌, ◌*◌, ◌/◌, ◌%◌, ◌<◌, ◌==◌, ◌&&◌, ◌||◌, Bool, true, false, cond, nat_lt, List, [], ◌∷◌, ◌++◌, ap, append_assoc, ◌∙◌, arith, refl}
 use Rattle.std.proofs.lemmas.Bool.Decides.{nat_tests}
 use Rattle.std.proofs.lemmas.Grind.{common_steps}
-use Rattle.lgp_fields.specs.Escaped.{escaped, escaped_byte, hex_digit}
+use Rattle.lgp_fields.specs.Escaped.{escaped, escaped_byte, hex_digit, is_itself}
 use Rattle.lgp_fields.specs.ReadBack.{are_bytes, has_no_blank, hex_value, key_of, unescaped, unescaped_at, value_of}
 
 digit_back : (v : ℕ) → v < 16 → hex_value (hex_digit v) ≡ v
 unfolding hex_value
 digit_back v below = grind (arith, nat_tests)
 
--- by whether a byte comes after a backslash, and whether it is itself
-by_tests : (c : ℕ) (rest : List ℕ) (quoted printed : Bool) → c < 256 → ((c == 34) || (c == 92)) ≡ quoted
-    → unescaped_at 0 0 (cond quoted (92 ∷ c ∷ []) (cond printed (c ∷ []) (92 ∷ 117 ∷ 48 ∷ 48 ∷ hex_digit (c / 16) ∷ hex_digit (c % 16) ∷ [])) ++ rest) ≡ c ∷ unescaped_at 0 0 rest
+-- by whether a byte is written as itself, and whether it comes after a backslash
+by_tests : (c : ℕ) (rest : List ℕ) (itself quoted : Bool) → c < 256 → is_itself c ≡ itself → ((c == 34) || (c == 92)) ≡ quoted
+    → unescaped_at 0 0 (cond itself (c ∷ []) (cond quoted (92 ∷ c ∷ []) (92 ∷ 117 ∷ 48 ∷ 48 ∷ hex_digit (c / 16) ∷ hex_digit (c % 16) ∷ [])) ++ rest) ≡ c ∷ unescaped_at 0 0 rest
 unfolding unescaped_at hex_value
-by_tests c rest true printed below is =
+by_tests c rest true quoted below is after =
+    let slash : (c == 92) ≡ false = grind (arith, nat_tests) in
+    let mark : (c == 34) ≡ false = grind (arith, nat_tests) in rw (mark, slash) refl
+by_tests c rest false true below is after =
     let other : (c == 117) ≡ false = grind (arith, nat_tests) in rw other refl
-by_tests c rest false true below is =
-    let other : (c == 92) ≡ false = grind (arith, nat_tests) in
-    let mark : (c == 34) ≡ false = grind (arith, nat_tests) in rw (mark, other) refl
-by_tests c rest false false below is =
+by_tests c rest false false below is after =
     let high : hex_value (hex_digit (c / 16)) ≡ c / 16 = digit_back (c / 16) (omega arith) in
     let low : hex_value (hex_digit (c % 16)) ≡ c % 16 = digit_back (c % 16) (omega arith) in
     let e : 16 * (16 * 0 + hex_value (hex_digit (c / 16))) + hex_value (hex_digit (c % 16)) ≡ c = omega (arith, high, low) in
@@ -28,7 +28,7 @@ byte_back : (c : ℕ) (rest : List ℕ) → nat_lt c 256 ≡ true → unescaped_
 unfolding escaped_byte
 byte_back c rest byte =
     let below : c < 256 = grind (arith, nat_tests) in
-    by_tests c rest ((c == 34) || (c == 92)) (nat_le 32 c && nat_le c 126) below refl
+    by_tests c rest (is_itself c) ((c == 34) || (c == 92)) below refl refl
 
 -- both tests of a pair
 pub split : (a b : Bool) → (a && b) ≡ true → (a ≡ true) × (b ≡ true)

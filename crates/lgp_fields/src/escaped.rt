@@ -1,8 +1,8 @@
 //! The bytes of a text, escaped so that they stand in one line and between quotation marks.
 
-ghost use Rattle.std.specs.Prelude.{◌≡◌, ◌++◌, ◌<◌, ◌==◌, ◌&&◌, ◌||◌, OnOk, nat_le, not};
+ghost use Rattle.std.specs.Prelude.{◌≡◌, ◌++◌, ◌<◌, OnOk};
 ghost use Rattle.std.specs.List.{list_all};
-ghost use Rattle.lgp_fields.specs.Escaped.{escaped, escaped_byte, hex_digit};
+ghost use Rattle.lgp_fields.specs.Escaped.{escaped, escaped_byte, hex_digit, is_itself};
 
 use std::alloc::{AllocError, Allocator};
 
@@ -18,32 +18,31 @@ fn hex_digit(value: u8) -> u8
     }
 }
 
+/// Whether a byte is written as itself.
+fn is_itself(byte: u8) -> bool
+    ensures { result ≡ is_itself byte }
+{
+    byte != b'"' && byte != b'\\' && 32 <= byte && byte <= 126
+}
+
 /// Appends a byte of a text.
 #[tactic(auto, unfolding(crate::specs::Escaped::escaped_byte))]
 fn push_byte<A: Allocator>(text: &mut Vec<u8, A>, byte: u8) -> Result<(), AllocError>
     ensures { OnOk result (text.new.items ≡ text.old.items ++ escaped_byte byte) }
 {
+    if is_itself(byte) {
+        return text.extend_from_slice(&[byte]);
+    }
     if byte == b'"' || byte == b'\\' {
         return text.extend_from_slice(&[b'\\', byte]);
-    }
-    if 32 <= byte && byte <= 126 {
-        return text.extend_from_slice(&[byte]);
     }
     let (high, low) = (hex_digit(byte / 16), hex_digit(byte % 16));
     text.extend_from_slice(&[b'\\', b'u', b'0', b'0', high, low])
 }
 
-/// Whether a byte is written as itself.
-fn is_itself(byte: u8) -> bool
-    ensures { result ≡ (not (byte == 34 || byte == 92) && (nat_le 32 byte && nat_le byte 126)) }
-{
-    byte != b'"' && byte != b'\\' && 32 <= byte && byte <= 126
-}
-
-/// Whether each byte of a text is.
+/// Whether each byte of a text is written as itself.
 fn are_themselves(bytes: &[u8]) -> bool
-    ensures { result ≡ list_all (λ byte. not (byte == 34 || byte == 92)
-        && (nat_le 32 byte && nat_le byte 126)) bytes.now }
+    ensures { result ≡ list_all is_itself bytes.now }
 {
     bytes.iter().all(|byte| is_itself(*byte))
 }
