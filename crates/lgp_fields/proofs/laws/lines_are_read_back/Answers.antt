@@ -1,7 +1,7 @@
 use Rattle.std.proofs.Common.{◌≡◌, ◌++◌, ◌∷◌, ◌∙◌, List, ℕ, ap, arith, codes, refl, true}
 use Rattle.lgp_fields.specs.Plain.{Plain, Nothing, Number, Signed, YesNo, Numbers, Text, field}
 use Rattle.lgp_fields.specs.Printed.{field_line, value_text}
-use Rattle.lgp_fields.specs.ReadBack.{has_no_blank, has_text, key_of, value_of}
+use Rattle.lgp_fields.specs.ReadBack.{has_text, key_of, value_of}
 use Rattle.lgp_fields.proofs.ReadBackLaws.{key_back, value_back}
 use Rattle.lgp_fields.proofs.laws.lines_are_read_back.Goals as goal
 

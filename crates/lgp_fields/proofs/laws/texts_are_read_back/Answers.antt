@@ -1,4 +1,4 @@
-use Rattle.std.proofs.Common.{◌≡◌, ◌∙◌, ◌++◌, ◌∷◌, [], List, ℕ, ap, append_assoc, codes}
+use Rattle.std.proofs.Common.{◌∙◌, ◌∷◌, [], List, ℕ, ap, append_assoc}
 use Rattle.lgp_fields.specs.Escaped.{escaped}
 use Rattle.lgp_fields.specs.Printed.{value_json}
 use Rattle.lgp_fields.specs.ReadBack.{unescaped_at}
