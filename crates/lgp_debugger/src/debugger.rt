@@ -651,6 +651,14 @@ impl<H: History<A>, A: Allocator + Copy> Debugger<H, A> {
 }
 
 impl<H: Origins<A>, A: Allocator> Debugger<H, A> {
+    /// Notes what the kept steps changed, as far as that is not done yet: `origin` then finds out without a search that none of them
+    /// changed a word.
+    pub fn note_changes(&mut self)
+        ensures { self.new ≡ self.old }
+    {
+        self.history.note_changes();
+    }
+
     /// The latest kept step that changed the word at an address, if one did.
     pub fn origin(&self, address: Address) -> Option<Origin>
         ensures { result ≡ latest_change address self.now.steps }

@@ -6,3 +6,4 @@ pub mod Trails
 pub mod StepLaws
 pub mod OriginLemmas
 pub mod OriginLaws
+pub mod NotingLemmas

@@ -95,7 +95,7 @@ abbrev pub before_mark : Recorded → State → State
 before_mark r after = state_at_mark (with_tape r.tape r.mark.passed after) r.mark r.lost
 
 -- no step takes the clock back
-not_back : (step : Step) (s : State) → s.clock ≤ (stepped step s).clock
+pub not_back : (step : Step) (s : State) → s.clock ≤ (stepped step s).clock
 not_back Perform s = omega (arith, cost_more s)
 not_back (Press action) s = omega arith
 not_back (Idle times) s = omega arith
@@ -182,7 +182,7 @@ front-last rs r is =
     sym (take-append-drop (length rs - 1) rs) ∙ ap (λ (xs : List Recorded). take (length rs - 1) rs ++ xs) (drop-next rs _ r is ∙ ap (λ (xs : List Recorded). r ∷ xs) (drop_of_length-le rs past))
 
 -- the steps before the last one, which leads on
-before_last : (ks : List KeptStep) (k : KeptStep) (now : State) → AreStepsTo now (ks ++ k ∷ []) → AreStepsTo k.before ks × (stepped k.step k.before ≡ now)
+pub before_last : (ks : List KeptStep) (k : KeptStep) (now : State) → AreStepsTo now (ks ++ k ∷ []) → AreStepsTo k.before ks × (stepped k.step k.before ≡ now)
 before_last [] k now led = (tt, led.1)
 before_last (x ∷ xs) k now led =
     grind (arith, first_state-more, before_last xs k _ led.2)

@@ -1,6 +1,6 @@
 //! What is recorded of a step, so that it can be undone.
 
-ghost use Rattle.std.specs.Prelude.{◌≡◌, ◌≤◌, ℕ, List, Some, length, option_map, position, IfOk, IsTrue};
+ghost use Rattle.std.specs.Prelude.{◌≡◌, ◌≤◌, ℕ, List, Some, length, option_map, position, slice_index, IfOk, IsTrue};
 ghost use Rattle.lgp_flexo.specs.TapeText.{tape_limit};
 ghost use Rattle.lgp_table.specs.Activity.{begun_order};
 ghost use Rattle.lgp_table.specs.Interleaving.{at_boundary, is_boundary};
@@ -8,6 +8,7 @@ ghost use Rattle.lgp_table.specs.declared.panel.Panel.{Panel};
 ghost use Rattle.lgp_history.specs.Step.{Perform, plain};
 ghost use Rattle.lgp_history.specs.Steps.{is_order};
 ghost use Rattle.lgp_history.specs.RecordedInside.{lost_by, lost_by_order, lost_in, lost_of, lost_word, tape_of, tape_or_none, with_tape};
+ghost use Rattle.lgp_history.specs.Noting.{IsNoted};
 
 use crate::origin::{Changer, PastOrder};
 use crate::rule::Rule;
@@ -235,6 +236,28 @@ impl<A: Allocator> Record<A> {
             Some(self.lost.word)
         } else {
             None
+        }
+    }
+
+    /// The clock at which the step began.
+    #[inline(always)]
+    pub fn clock(&self) -> u64
+        ensures { result ≡ self.now.mark.clock }
+    {
+        self.clock
+    }
+
+    /// Notes the change of the step, if it changed a word: by address one more than the clock of the latest change.
+    pub fn note_change(&self, changes: &mut [u64])
+        requires { length changes.old ≡ 4096 }
+        ensures noted { IsNoted changes.new self.now }
+        ensures grow { (address : ℕ) → slice_index changes.old address
+            ≤ slice_index changes.new address }
+        ensures places { length changes.new ≡ 4096 }
+    {
+        let place = usize::from(self.lost.address.number());
+        if self.lost.differs && changes[place] <= self.clock {
+            changes[place] = self.clock + 1;
         }
     }
 

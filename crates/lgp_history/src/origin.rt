@@ -1,6 +1,7 @@
 //! Where the words of the drum came from.
 
 ghost use Rattle.std.specs.Prelude.{◌≡◌};
+ghost use Rattle.lgp_table.specs.State.{State};
 ghost use Rattle.lgp_table.specs.Interleaving.{at_boundary};
 ghost use Rattle.lgp_history.specs.Origins.{latest_change};
 ghost use Rattle.lgp_history.specs.Steps.{Leads};
@@ -40,6 +41,12 @@ pub struct Origin {
 
 /// A history that tells where words came from. It takes no memory for that.
 pub trait Origins<A: Allocator>: History<A> {
+    /// Notes what the kept steps changed, as far as that is not done yet. After it `origin` finds out without a search that none of
+    /// them changed a word. What is kept stays as it is.
+    fn note_changes(&mut self)
+        ensures steps { (now : State) → Self.steps self.new now ≡ Self.steps self.old now }
+        ensures capacity { Self.capacity self.new ≡ Self.capacity self.old };
+
     /// The latest kept step that changed the word at an address. `None` where no kept step did: there is the word with which
     /// the kept steps begin. A step that stored the very same word did not change it.
     fn origin(&self, now: &Machine<A>, address: Address) -> Option<Origin>

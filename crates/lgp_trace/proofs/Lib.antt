@@ -15,4 +15,3 @@ pub mod OptimumLemmas
 pub mod GainLemmas
 pub mod AllMoved
 pub mod Telling
-pub mod UnchangedWords

@@ -8,7 +8,6 @@ pub mod PhrasesInside
 pub mod DrumRows
 pub mod ProfileLines
 pub mod Runs
-pub mod UnchangedInside
 pub mod Optimum
 pub mod OptimumKept
 pub mod TurnsInside

@@ -21,7 +21,6 @@ mod ranking;
 mod runs;
 mod trace;
 mod turns;
-mod unchanged;
 mod uses;
 
 pub use account::{Account, Begun, Found, Operand};

@@ -8,12 +8,10 @@ ghost use Rattle.lgp_trace.specs.Account.{account_of};
 ghost use Rattle.lgp_trace.specs.Phases.{all_phases};
 ghost use Rattle.lgp_trace.specs.OriginLines.{reported_account};
 ghost use Rattle.lgp_trace.specs.Runs.{reported};
-ghost use Rattle.lgp_trace.specs.UnchangedInside.{AreUnchanged};
 
 use crate::account::{Account, Begun};
 use crate::labels::Labels;
-use crate::origin_lines::push_reported;
-use crate::unchanged::Unchanged;
+use crate::origin_lines::{order_origin, push_reported};
 use lgp_debugger::{Debugger, Ran, RunFault, WatchFault, Watcher};
 use lgp_history::{Origin, Origins};
 use std::alloc::{AllocError, Allocator};
@@ -61,14 +59,13 @@ impl<L: Labels> Accounts for InColumns<'_, L> {
 #[derive(Drop)]
 struct Tracer<'a, W> {
     accounts: &'a W,
-    unchanged: Unchanged,
 }
 
 impl<H: Origins<A>, W: Accounts, A: Allocator, B: Allocator> Watcher<H, A, Vec<u8, B>>
     for Tracer<'_, W> {
     ghost in_force = { λ _ rules. rules };
 
-    ghost ready = { λ tracer d _. AreUnchanged tracer.unchanged.marks d.steps };
+    ghost ready = { λ _ _ _. Unit {0} };
 
     ghost Sees = { λ tracer d before after. after.items ≡ before.items
         ++ W.told tracer.accounts.now (account_of d.state) (order_origin d) };
@@ -84,13 +81,13 @@ impl<H: Origins<A>, W: Accounts, A: Allocator, B: Allocator> Watcher<H, A, Vec<u
         let Some(begun) = Begun::of(debugger.machine()) else {
             unreachable!()
         };
-        let origin = self.unchanged.order_origin(debugger);
+        debugger.note_changes();
+        let origin = order_origin(debugger);
         let stop = match debugger.go_on() {
             Ok(stop) => stop,
             Err(fault) => return Err(WatchFault::Refused(fault)),
         };
         let account = begun.finish(debugger.machine());
-        self.unchanged.note(&account);
         if self.accounts.push_order(text, &account, origin).is_err() {
             return Err(WatchFault::Unseen);
         }
@@ -111,9 +108,6 @@ pub fn trace_run<H: Origins<A>, W: Accounts, A: Allocator, B: Allocator>(
         (text.new.items ≡ text.old.items ++ reported (W.told accounts.now) debugger.old.state
         (order_origins debugger.old) (orders_of result)) }
 {
-    let mut tracer = Tracer {
-        accounts,
-        unchanged: Unchanged::new(),
-    };
+    let mut tracer = Tracer { accounts };
     debugger.run_watched(limit, &mut tracer, text)
 }

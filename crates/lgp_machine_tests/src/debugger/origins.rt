@@ -54,11 +54,15 @@ fn is_said<A: Allocator + Copy>(lab: &Debugger<Records<A>, A>, wanted: &Option<S
     }
 }
 
-/// Whether a call answers so, or that is said.
+/// Whether a call answers so, or that is said, before the changes of the kept steps are noted and after it.
 fn is_so<A: Allocator + Copy>(lab: &mut Debugger<Records<A>, A>, alloc: A, act: &Act) -> bool {
     match act {
         Act::Do(row) => is_answered(lab, alloc, row),
-        Act::Says(wanted) => is_said(lab, wanted),
+        Act::Says(wanted) => {
+            let is_found = is_said(lab, wanted);
+            lab.note_changes();
+            is_found && is_said(lab, wanted)
+        }
     }
 }
 
@@ -141,8 +145,28 @@ const EXECUTED: &[Act] = &[
     Act::Says(Some((Some((None, HOLD, 1)), 69, 8))),
 ];
 
+/// Puts 8, and at clock 5 starts and performs as many orders as are kept, of which the first holds 0 and no other changes that word.
+/// After one order more that one is forgotten, and does not come back.
+const LONG_AGO: &[Act] = &[
+    Act::Do(Row::Put(100, 8, Ok(()))),
+    Act::Do(Row::Idle(5, Ok(()))),
+    Act::Says(BY_HAND),
+    START,
+    Act::Do(Row::Steps(5000, 5000)),
+    Act::Says(Some((Some((Some(0), HOLD, 5000)), 5, 8))),
+    STEP,
+    Act::Says(None),
+    Act::Do(Row::Back(1, Ok(()))),
+    Act::Says(None),
+];
+
 /// How many steps are kept at most, and what is done.
-static STORIES: [(usize, &'static [Act]); 3] = [(9, THERE_AND_BACK), (2, FORGOTTEN), (9, EXECUTED)];
+static STORIES: [(usize, &'static [Act]); 4] = [
+    (9, THERE_AND_BACK),
+    (2, FORGOTTEN),
+    (9, EXECUTED),
+    (5000, LONG_AGO),
+];
 
 #[test]
 fn words_come_from_kept_steps_that_changed_them(rt: HostRuntime) {

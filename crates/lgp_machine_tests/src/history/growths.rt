@@ -79,7 +79,7 @@ fn each_growth_of_a_new_history_is_refused(rt: HostRuntime) {
         in_turn(
             &limited,
             || over_kind(&limited, (Kind::Records, 130), &Make),
-        ) >= Some(1),
+        ) >= Some(2),
         in_turn(
             &limited,
             || over_kind(&limited, (Kind::Checkpoints, 130), &Make),

@@ -1,16 +1,8 @@
-use Rattle.std.proofs.Common.{ap, arith, ◌≤◌, length, List, drop_of_length-le}
+use Rattle.std.proofs.Common.{◌∙◌, ap, sym}
+use Rattle.circular_buffer.specs.Buffer.{Buffer}
 use Rattle.lgp_history.specs.RecordedInside.{Recorded, orders_recorded}
-use Rattle.lgp_history.proofs.KeptSteps.{bool_byte-few, bool_byte-order}
-use Rattle.lgp_history.proofs.RecordedSteps.{drop-next, orders_in-read}
+use Rattle.lgp_history.proofs.RecordedSteps.{orders_in-read}
 use Rattle.lgp_history.proofs.records.RecordsHistory.orders_kept.Goals as goal
 
-pub loop-index-preserved : goal.loop-index-preserved
-loop-index-preserved g c =
-    grind (arith, drop-next, bool_byte-order, bool_byte-few)
-
 pub returns : goal.returns
-returns g c = λ now.
-    let rs = c.args.self.now.records.items in
-    let past : length rs ≤ c.loop-index.index = omega arith in
-    let none = ap (λ (xs : List Recorded). orders_recorded xs) (drop_of_length-le rs past) in
-    omega (arith, none, orders_in-read rs now)
+returns g c = λ now. c.count_orders.ensures ∙ ap (λ (b : Buffer Recorded). orders_recorded b.items) c.self.view_is ∙ sym (orders_in-read _ now)

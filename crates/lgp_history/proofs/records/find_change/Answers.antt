@@ -4,13 +4,14 @@ use Rattle.lgp_history.specs.RecordedInside.{Recorded, orders_recorded, read, re
 use Rattle.lgp_history.specs.Steps.{first_state}
 use Rattle.lgp_history.specs.declared.origin.Changer.{Changer}
 use Rattle.lgp_history.proofs.KeptSteps.{bool_byte-few, bool_byte-order}
+use Rattle.lgp_history.proofs.NotingLemmas.{none-before}
 use Rattle.lgp_history.proofs.RecordedSteps.{orders_recorded-before}
 use Rattle.lgp_history.proofs.OriginLemmas.{came, change-found, change-passed, no_change, register-before}
-use Rattle.lgp_history.proofs.records.RecordsOrigins.origin.Goals as goal
+use Rattle.lgp_history.proofs.records.find_change.Goals as goal
 
 pub loop-unread-init : goal.loop-unread-init
 loop-unread-init g c =
-    let rs = c.args.self.now.records.items in
+    let rs = c.args.records.now.items in
     let past : length rs ≤ c.len-unread.result = omega arith in
     let none = drop_of_length-le rs past in
     record {
@@ -23,7 +24,7 @@ loop-unread-init g c =
 
 pub returns-in-Some-lost_at : goal.returns-in-Some-lost_at
 returns-in-Some-lost_at g c =
-    let rs = c.args.self.now.records.items in
+    let rs = c.args.records.now.items in
     let r = c.in-Some.record.now in
     let some : 0 < c.loop-unread.unread = omega arith in
     let at = sym c.in-Some.ensures in
@@ -35,7 +36,7 @@ returns-in-Some-lost_at g c =
 
 pub loop-unread-preserved : goal.loop-unread-preserved
 loop-unread-preserved g c =
-    let rs = c.args.self.now.records.items in
+    let rs = c.args.records.now.items in
     let r = c.in-Some.record.now in
     let some : 0 < c.loop-unread.unread = omega arith in
     let at = sym c.in-Some.ensures in
@@ -49,3 +50,8 @@ loop-unread-preserved g c =
       held = c.register-register.ensures ∙ register-before rs c.args.now.now.state c.loop-unread.unread r c.requires.leads some at;
       none_so_far = change-passed _ rs _ _ r _ c.requires.leads some at c.loop-unread.invariant.none_so_far c.loop-unread.invariant.held (sym c.in_default-lost_at.ensures);
     }
+
+pub returns-then-clock-unchanged_before : goal.returns-then-clock-unchanged_before
+returns-then-clock-unchanged_before g c =
+    let some : 0 < c.loop-unread.unread = omega arith in
+    sym (none-before _ _ _ _ _ _ c.requires.leads c.requires.in_order some c.loop-unread.invariant.within (sym c.in-Some.ensures) (omega arith) c.requires.unchanged c.loop-unread.invariant.none_so_far)
