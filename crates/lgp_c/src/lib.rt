@@ -1,11 +1,8 @@
 //! The laboratory for programs that are not written in Rattle: the functions of `c/lgp30.h`.
 #![tactic(auto)]
 
-ghost use Rattle.std.specs.Prelude.{◌≡◌, ◌<◌, ◌≤◌, IfSome, IsNone, IsSome, None, Some, length};
-ghost use Rattle.lgp_call.specs.Room.{filled};
-ghost use Rattle.lgp_call.specs.Session.{after_line, closing_reply, no_outcome, opening_session, outcome_of, questions_in};
-ghost use Rattle.lgp_call.specs.Status.{answered_status, closed_status, memory_status, open_status, unread_status};
-ghost use Rattle.lgp_script.specs.Script.{script_faults, script_text};
+ghost use Rattle.lgp_call.specs.Reply.{IsScriptGiven};
+ghost use Rattle.lgp_call.specs.Slot.{IsAnswered, IsClosed, IsOpened, IsRepeated};
 ghost use Rattle.std.specs.Global.{Global};
 
 use lgp_call::{Outcome, Session, refuse, run_into};
@@ -24,18 +21,7 @@ pub extern "C" fn lgp_run_script(
     room: &mut [u8],
     outcome: &mut Outcome,
 ) -> u32
-    ensures status { result < unread_status
-        → result ≡ answered_status (script_faults script.now) }
-    ensures questions { result < unread_status
-        → outcome.new.questions ≡ script_faults script.now }
-    ensures length { result < unread_status
-        → outcome.new.length ≡ length (script_text script.now) }
-    ensures written { result < unread_status
-        → room.new ≡ filled (script_text script.now) room.old }
-    ensures known { result ≤ memory_status }
-    ensures unwritten { unread_status ≤ result → room.new ≡ room.old }
-    ensures uncounted { unread_status ≤ result
-        → outcome.new ≡ record { questions = 0; length = 0 } }
+    ensures { IsScriptGiven script.now room.old room.new outcome.new result }
 {
     run_into(alloc, script, room, outcome)
 }
@@ -45,11 +31,7 @@ pub extern "C" fn lgp_run_script(
 /// The status is 0; 3 where there was not enough memory, and then none is open; 4 where one is open already, which stays as it was.
 #[unsafe(no_mangle)]
 pub extern "C" fn lgp_open(alloc: Global, session: &mut Slot) -> u32
-    ensures opened { result ≡ 0 → session.new.held ≡ Some opening_session }
-    ensures refused { result ≡ memory_status → session.new.held ≡ None }
-    ensures already { IsSome session.old.held → result ≡ open_status }
-    ensures unchanged { IsSome session.old.held → session.new.held ≡ session.old.held }
-    ensures known { IsNone session.old.held → 0 < result → result ≡ memory_status }
+    ensures { IsOpened session.old.held session.new.held result }
 {
     match mem::replace(session, Slot::empty(alloc)).into_parts() {
         Some(parts) => {
@@ -78,20 +60,8 @@ pub extern "C" fn lgp_answer(
     room: &mut [u8],
     outcome: &mut Outcome,
 ) -> u32
-    ensures after { IfSome session.old.held (λ state. result < unread_status
-        → session.new.held ≡ Some (after_line state line.now)) }
-    ensures status { IfSome session.old.held (λ state. result < unread_status
-        → result ≡ answered_status (questions_in (after_line state line.now).reply)) }
-    ensures written { IfSome session.old.held (λ state. result < unread_status
-        → room.new ≡ filled (after_line state line.now).reply room.old) }
-    ensures reported { IfSome session.old.held (λ state. result < unread_status
-        → outcome.new ≡ outcome_of (after_line state line.now).reply) }
-    ensures refused { IsSome session.old.held → unread_status ≤ result
-        → result ≡ memory_status }
-    ensures ended { unread_status ≤ result → session.new.held ≡ None }
-    ensures closed { IsNone session.old.held → result ≡ closed_status }
-    ensures unwritten { unread_status ≤ result → room.new ≡ room.old }
-    ensures unreported { unread_status ≤ result → outcome.new ≡ no_outcome }
+    ensures { IsAnswered line.now session.old.held session.new.held room.old room.new outcome.new
+        result }
 {
     let Some(parts) = mem::replace(session, Slot::empty(alloc)).into_parts() else {
         return refuse(outcome, 5);
@@ -114,15 +84,7 @@ pub extern "C" fn lgp_reply(
     room: &mut [u8],
     outcome: &mut Outcome,
 ) -> u32
-    ensures unchanged { session.new.held ≡ session.old.held }
-    ensures status { IfSome session.old.held (λ state.
-        result ≡ answered_status (questions_in state.reply)) }
-    ensures written { IfSome session.old.held (λ state.
-        room.new ≡ filled state.reply room.old) }
-    ensures reported { IfSome session.old.held (λ state. outcome.new ≡ outcome_of state.reply) }
-    ensures closed { IsNone session.old.held → result ≡ closed_status }
-    ensures unwritten { IsNone session.old.held → room.new ≡ room.old }
-    ensures unreported { IsNone session.old.held → outcome.new ≡ no_outcome }
+    ensures { IsRepeated session.old.held session.new.held room.old room.new outcome.new result }
 {
     let Some(parts) = mem::replace(session, Slot::empty(alloc)).into_parts() else {
         return refuse(outcome, 5);
@@ -143,18 +105,7 @@ pub extern "C" fn lgp_close(
     room: &mut [u8],
     outcome: &mut Outcome,
 ) -> u32
-    ensures ended { session.new.held ≡ None }
-    ensures status { IfSome session.old.held (λ state. result < unread_status
-        → result ≡ answered_status (questions_in (closing_reply state))) }
-    ensures written { IfSome session.old.held (λ state. result < unread_status
-        → room.new ≡ filled (closing_reply state) room.old) }
-    ensures reported { IfSome session.old.held (λ state. result < unread_status
-        → outcome.new ≡ outcome_of (closing_reply state)) }
-    ensures refused { IsSome session.old.held → unread_status ≤ result
-        → result ≡ memory_status }
-    ensures closed { IsNone session.old.held → result ≡ closed_status }
-    ensures unwritten { unread_status ≤ result → room.new ≡ room.old }
-    ensures unreported { unread_status ≤ result → outcome.new ≡ no_outcome }
+    ensures { IsClosed session.old.held session.new.held room.old room.new outcome.new result }
 {
     match mem::replace(session, Slot::empty(alloc)).into_parts() {
         Some(parts) => Box::into_inner(parts.into_box()).close_into(room, outcome),

@@ -1,3 +1,5 @@
 pub mod Room
 pub mod Status
 pub mod Session
+pub mod Reply
+pub mod Slot

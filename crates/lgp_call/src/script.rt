@@ -1,7 +1,6 @@
 //! A whole script in one call.
-ghost use Rattle.std.specs.Prelude.{◌≡◌, ◌++◌, ◌<◌, ◌≤◌, IfOk, OnOk, false, length};
-ghost use Rattle.lgp_call.specs.Room.{filled};
-ghost use Rattle.lgp_call.specs.Status.{answered_status, memory_status, unread_status};
+ghost use Rattle.std.specs.Prelude.{◌≡◌, ◌++◌, IfOk, OnOk, false};
+ghost use Rattle.lgp_call.specs.Reply.{IsScriptGiven};
 ghost use Rattle.lgp_script.specs.Script.{script_faults, script_text};
 
 use crate::replies::Replies;
@@ -46,18 +45,7 @@ pub fn run_into<A: Allocator + Copy>(
     room: &mut [u8],
     outcome: &mut Outcome,
 ) -> u32
-    ensures status { result < unread_status
-        → result ≡ answered_status (script_faults script.now) }
-    ensures questions { result < unread_status
-        → outcome.new.questions ≡ script_faults script.now }
-    ensures length { result < unread_status
-        → outcome.new.length ≡ length (script_text script.now) }
-    ensures written { result < unread_status
-        → room.new ≡ filled (script_text script.now) room.old }
-    ensures known { result ≤ memory_status }
-    ensures unwritten { unread_status ≤ result → room.new ≡ room.old }
-    ensures uncounted { unread_status ≤ result
-        → outcome.new ≡ record { questions = 0; length = 0 } }
+    ensures { IsScriptGiven script.now room.old room.new outcome.new result }
 {
     let mut replies = Replies {
         text: Vec::new(alloc),

@@ -1,9 +1,9 @@
 //! Lines answered one at a time.
 
-ghost use Rattle.std.specs.Prelude.{◌≡◌, ◌<◌, ◌≤◌, IfOk, OnOk};
-ghost use Rattle.lgp_call.specs.Room.{filled};
-ghost use Rattle.lgp_call.specs.Session.{after_line, closing_reply, has_line_feed, no_outcome, opening_session, outcome_of, questions_in};
-ghost use Rattle.lgp_call.specs.Status.{answered_status, memory_status, unread_status};
+ghost use Rattle.std.specs.Prelude.{◌≡◌, ◌<◌, IfOk, OnOk};
+ghost use Rattle.lgp_call.specs.Reply.{IsGiven, IsGivenUnlessMemory};
+ghost use Rattle.lgp_call.specs.Session.{after_line, closing_reply, has_line_feed, no_outcome, opening_session};
+ghost use Rattle.lgp_call.specs.Status.{unread_status};
 
 use crate::room::fill;
 use crate::script::Outcome;
@@ -92,9 +92,7 @@ impl<A: Allocator + Copy> Session<A> {
 
     /// Writes the last reply into the room, as far as it fits, and tells its whole length. The answer is the status of a reply.
     pub fn give_reply(&self, room: &mut [u8], outcome: &mut Outcome) -> u32
-        ensures status { result ≡ answered_status (questions_in self.now.reply) }
-        ensures written { room.new ≡ filled self.now.reply room.old }
-        ensures reported { outcome.new ≡ outcome_of self.now.reply }
+        ensures { IsGiven self.now.reply room.old room.new outcome.new result }
     {
         let reply = self.reply.as_slice();
         let is_question = is_question(reply);
@@ -111,14 +109,9 @@ impl<A: Allocator + Copy> Session<A> {
     /// The status is 0, 1, or 3 where there was not enough memory. With 3 nothing is written into the room, both numbers of the outcome
     /// are 0, and the session's state is left open: nothing more is to be asked of it.
     pub fn answer_into(&mut self, line: &[u8], room: &mut [u8], outcome: &mut Outcome) -> u32
-        ensures status { result < unread_status
-            → result ≡ answered_status (questions_in self.new.reply) }
         ensures after { result < unread_status → self.new ≡ after_line self.old line.now }
-        ensures written { result < unread_status → room.new ≡ filled self.new.reply room.old }
-        ensures reported { result < unread_status → outcome.new ≡ outcome_of self.new.reply }
-        ensures known { unread_status ≤ result → result ≡ memory_status }
-        ensures unwritten { unread_status ≤ result → room.new ≡ room.old }
-        ensures unreported { unread_status ≤ result → outcome.new ≡ no_outcome }
+        ensures reply { IsGivenUnlessMemory (after_line self.old line.now).reply room.old room.new
+            outcome.new result }
     {
         match self.answer_line(line) {
             Ok(()) => self.give_reply(room, outcome),
@@ -130,14 +123,7 @@ impl<A: Allocator + Copy> Session<A> {
     /// status is: 0, 1, or 3 where there was not enough memory for the reply. With 3 nothing is written into the room, and both numbers
     /// of the outcome are 0.
     pub fn close_into(mut self, room: &mut [u8], outcome: &mut Outcome) -> u32
-        ensures status { result < unread_status
-            → result ≡ answered_status (questions_in (closing_reply self)) }
-        ensures written { result < unread_status
-            → room.new ≡ filled (closing_reply self) room.old }
-        ensures reported { result < unread_status → outcome.new ≡ outcome_of (closing_reply self) }
-        ensures known { unread_status ≤ result → result ≡ memory_status }
-        ensures unwritten { unread_status ≤ result → room.new ≡ room.old }
-        ensures unreported { unread_status ≤ result → outcome.new ≡ no_outcome }
+        ensures { IsGivenUnlessMemory (closing_reply self) room.old room.new outcome.new result }
     {
         match self.end() {
             Ok(()) => self.give_reply(room, outcome),
