@@ -5,7 +5,7 @@ use Rattle.std.proofs.lemmas.List.{length-append, length-drop, length-replicate}
 use Rattle.std.proofs.lemmas.Option.{none-some, same_Some, slice_get-get_or, slice_get_cases, slice_get_within}
 use Rattle.circular_buffer.specs.Buffer.{Buffer, buffer, keep_last}
 use Rattle.lgp_table.specs.State.{State}
-use Rattle.lgp_history.specs.Noting.{AreInOrder, AreNoted, IsNoted, clock_or_none, last_clock}
+use Rattle.lgp_history.specs.NotingInside.{AreInOrder, AreNoted, IsNoted, clock_or_none, last_clock}
 use Rattle.lgp_history.specs.Origins.{latest_change}
 use Rattle.lgp_history.specs.Steps.{AreStepsTo, Leads, stepped}
 use Rattle.lgp_history.specs.RecordedInside.{Recorded, lost_at, read, recorded, undone}

@@ -4,7 +4,7 @@ pub mod Hits
 pub mod Origins
 pub mod Laws
 pub mod RecordedInside
-pub mod Noting
+pub mod NotingInside
 pub mod CheckpointsInside
 pub use Rattle.circular_buffer.specs.Buffer
 pub use Rattle.lgp_table.specs.State

@@ -8,7 +8,7 @@ ghost use Rattle.lgp_table.specs.declared.panel.Panel.{Panel};
 ghost use Rattle.lgp_history.specs.Step.{Perform, plain};
 ghost use Rattle.lgp_history.specs.Steps.{is_order};
 ghost use Rattle.lgp_history.specs.RecordedInside.{lost_by, lost_by_order, lost_in, lost_of, lost_word, tape_of, tape_or_none, with_tape};
-ghost use Rattle.lgp_history.specs.Noting.{IsNoted};
+ghost use Rattle.lgp_history.specs.NotingInside.{IsNoted};
 
 use crate::origin::{Changer, PastOrder};
 use crate::rule::Rule;

@@ -4,7 +4,7 @@ ghost use Rattle.std.specs.Prelude.{◌≡◌, ◌<◌, ◌≤◌, ◌∷◌, �
 ghost use Rattle.lgp_table.specs.State.{State};
 ghost use Rattle.lgp_table.specs.Interleaving.{at_boundary};
 ghost use Rattle.lgp_history.specs.Hits.{last_hit};
-ghost use Rattle.lgp_history.specs.Noting.{AreInOrder, AreNoted, IsNoted, first_clock, last_clock};
+ghost use Rattle.lgp_history.specs.NotingInside.{AreInOrder, AreNoted, IsNoted, first_clock, last_clock};
 ghost use Rattle.lgp_history.specs.Origins.{latest_change};
 ghost use Rattle.lgp_history.specs.Steps.{Leads, state_back, steps_back};
 ghost use Rattle.lgp_history.specs.RecordedInside.{Recorded, lost_at, orders_recorded, read, recorded};
@@ -36,7 +36,7 @@ pub struct Records<A: Allocator = Global> {
 
 impl<A: Allocator> Model for Records<A> {
     ghost use Rattle.circular_buffer.specs.Buffer.{Buffer};
-    ghost use Rattle.lgp_history.specs.Noting.{AreNoted};
+    ghost use Rattle.lgp_history.specs.NotingInside.{AreNoted};
     ghost use Rattle.lgp_history.specs.RecordedInside.{Recorded};
     ghost use Rattle.std.specs.Prelude.{◌≤◌};
 

@@ -1,5 +1,5 @@
 use Rattle.std.proofs.Common.{◌≡◌, ◌≤◌, ℕ, length, slice_get, slice_index, Some}
-use Rattle.lgp_history.specs.Noting.{IsNoted}
+use Rattle.lgp_history.specs.NotingInside.{IsNoted}
 use Rattle.lgp_history.specs.RecordedInside.{Recorded}
 use Rattle.lgp_history.proofs.records.note_later.Given as goal
 
