@@ -123,7 +123,7 @@ struct lgp_memory {
 };
 
 /* Like lgp_run_script, in the memory that it is given and never returns. Each script of examples/ takes
- * less than 700 kilobytes, and the replies of a script about four times their length in addition; if the
+ * less than 750 kilobytes, and the replies of a script about four times their length in addition; if the
  * memory is too small, the status is LGP_NO_MEMORY. */
 uint32_t lgp_run_script_in(struct lgp_memory memory,
                            const uint8_t *script, size_t script_length,
@@ -136,7 +136,7 @@ uint32_t lgp_run_script_in(struct lgp_memory memory,
 /* Opens a session. The memory is given up for good whatever the status is, even with LGP_IS_OPEN.
  * LGP_WELL; LGP_NO_MEMORY if no session could be opened; LGP_IS_OPEN if nothing has changed.
  *
- * The region itself uses 4,096 of these bytes, and an open session about 600 kilobytes. No block that was
+ * The region itself uses 4,096 of these bytes, and an open session about 650 kilobytes. No block that was
  * returned is lost: it serves a later request of its size, so lines that leave nothing behind do not need
  * more and more memory. What a session keeps does: the transcript, the steps to go back, a source and the
  * words that a program reads. The line `new` makes a new laboratory before it gives up the old one: after

@@ -93,7 +93,7 @@ static void closed_by_memory(void)
 {
     struct lgp_session session = {0};
     uint32_t status;
-    size_of_next = 614400; /* enough for a session and not for a program */
+    size_of_next = 647168; /* enough for a session and not for a program */
     expect(work(&in_region, &session, &status) > 0 && status == LGP_NO_MEMORY, "a line is refused its memory");
     expect(is_untold(ask(&in_region, &session, "panel", 32), LGP_NOT_OPEN), "no line is answered behind it");
     expect(is_untold(again(&in_region, &session, 32), LGP_NOT_OPEN), "and no reply given again");
