@@ -321,7 +321,7 @@ const de = {
     scriptDone: "Alle Zeilen des Skripts sind getan.",
     wayGo: "Die Maschine läuft: Schritt führt einen Befehl aus, Weiter alle, bis sie ruht.", wayStart: "Die Maschine steht still: Start setzt sie in Gang.",
     oneFaultFirst: "Ein Fehler im Quelltext: erst beheben, dann starten.", faultsFirst: "{count} Fehler im Quelltext: erst beheben, dann starten.", holdsLoaded: "In der Maschine ist, was zuletzt geladen wurde.", justLoaded: "Geladen: {words} Wörter, vom Lader mit {orders} Befehlen.",
-    wayOn: { order: "Die Maschine geht weiter, Befehl für Befehl, bis zum Anhalten.", slow: "Die Maschine geht in Zeitlupe weiter, bis zum Anhalten.", own: "Die Maschine geht in ihrem eigenen Tempo weiter, bis zum Anhalten.", fast: "Die Maschine geht weiter, so schnell es geht, bis zum Anhalten. Was hier steht, ist von einem Blick auf sie, viermal in der Sekunde." },
+    wayOn: { order: "Die Maschine geht weiter, Befehl für Befehl, bis zum Anhalten.", slow: "Die Maschine geht in Zeitlupe weiter, bis zum Anhalten.", own: "Die Maschine geht in ihrem eigenen Tempo weiter, bis zum Anhalten.", fast: "Die Maschine geht weiter, so schnell es geht, bis zum Anhalten. Die Anzeige wird viermal in der Sekunde erneuert." },
     wayKeys: "Die Maschine wartet auf den Bediener: Drücken Sie Tasten des Flexowriters, dann den bedingten Halt.", wayMode: "Die Maschine steht still, und Start ist in dieser Betriebsart tot: Drücken Sie {mode}, dann Start.",
     stoppedByRule: "Regel {number} hat angehalten: Sie {rule}.", ruleOfScript: "Das Skript hat sie gesetzt.", goOn: "Weiter", takeOut: "Regel {number} entfernen",
     stopped: "Der Lauf wurde vor seinem Ende angehalten.", printedMuch: "Der Lauf hat {count} Codes gedruckt. Weiter?",

@@ -87,8 +87,60 @@ async function seenWhole(browser, address) {
     await browser.size(1500, 1250);
 }
 
+const ENDLESS = "start b one\n u start\none word 00000002\n end start";
+
+/** What is told beside the time line and is not in its place: it reaches beyond it by more than a notice with buttons may, or has to be scrolled sideways. */
+const outOfPlace = (browser) => browser.value(`(() => {
+    const tells = document.querySelector(".tells");
+    const [{ top, bottom }, isScrolled] = [tells.getBoundingClientRect(), getComputedStyle(tells).overflowY !== "visible"];
+    return [tells, ...tells.querySelectorAll(".way, .notice")].filter((it) => it.checkVisibility()).flatMap((it) => {
+        const box = it.getBoundingClientRect();
+        const name = it.id || it.className;
+        return [...!isScrolled && (box.top < top - 6 || box.bottom > bottom + 6) ? [name + " beyond its place"] : [], ...it.scrollWidth > it.clientWidth + 1 ? [name + " sideways"] : []];
+    });
+})()`);
+
+/** A run that goes on until it is stopped moves nothing, at no size and in no language, not while what it does is told nor after it; the offer of an earlier work steps back for that, unless it has the
+ * focus. */
+async function nothingMovesMeanwhile(browser, address) {
+    await browser.open(`${address}?lang=en&door=work`);
+    await browser.write("; mine");
+    for (const code of ["en", "de"]) {
+        await browser.open(`${address}?lang=${code}&door=work`);
+        await browser.write(ENDLESS);
+        await browser.waitFor("/No fault|Kein Fehler/.test(document.querySelector('.source .told').textContent)");
+        for (const [width, height] of [...SIZES, [1280, 720], [1100, 800], [768, 1024], [360, 740]]) {
+            await browser.size(width, height);
+            await browser.waitFor("(innerWidth <= 760) === (document.querySelector('.phone-tabs .tablist') !== null)");
+            await browser.value("laboratoryOfPage().say('panel')");
+            await laidOut(browser);
+            assert.equal(await browser.value("document.querySelector('#kept').checkVisibility()"), true);
+            const before = await boxes(browser);
+            const still = async (when) => assert.deepEqual([await boxes(browser), await outOfPlace(browser)], [before, []], `${code} at ${width} by ${height}, ${when}`);
+            await still("before");
+            await browser.press("#run-program");
+            await browser.waitFor("laboratoryOfPage().progress !== null && document.querySelector('#progress').checkVisibility()");
+            await laidOut(browser);
+            await still("while it goes on");
+            assert.equal(await browser.value("document.querySelector('#kept').checkVisibility()"), false);
+            await browser.halt();
+            await settled(browser);
+            await still("after it");
+        }
+    }
+    await browser.value("laboratoryOfPage().say('panel')");
+    await browser.value("document.querySelector('#kept button').focus()");
+    if (!await browser.value("document.querySelector('#kept').matches(':focus-within')")) return;
+    await browser.press("#run-program");
+    await browser.waitFor("laboratoryOfPage().progress !== null && document.querySelector('#progress').checkVisibility()");
+    assert.deepEqual([await browser.value("document.activeElement.closest('#kept') !== null && document.activeElement.checkVisibility()"), await outOfPlace(browser)], [true, []]);
+    await browser.halt();
+    await settled(browser);
+}
+
 /** Nothing moves: not when a run begins, nor when something is printed, nor when a notice comes. */
 async function nothingMoves(browser, address) {
+    await nothingMovesMeanwhile(browser, address);
     for (const [place, [width, height]] of SIZES.entries()) {
         await browser.size(width, height);
         await browser.open(`${address}?lang=${place % 2 === 0 ? "en" : "de"}&door=work`);
