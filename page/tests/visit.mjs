@@ -1349,11 +1349,12 @@ let browser = await Engine.start();
 const toldByPages = [];
 let failed = 0;
 
-/** Visits the page, and says in a line how that went. */
+/** Visits the page, and says in a line how that went. The window has its usual size, wherever the visit before has ended. */
 async function visited(name) {
     const began = Date.now();
     const seconds = () => `${((Date.now() - began) / 1000).toFixed(1)} s`;
     try {
+        await browser.size(1500, 1250);
         const found = await visits[name](browser);
         if (name === "longRun") assert.ok(found >= LEAST_SPEED, `${Math.round(found)} orders a second`);
         const lines = ["withoutWebAssembly", "cannotOpen"].includes(name) ? null : await endsThere(browser);
