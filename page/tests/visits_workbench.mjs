@@ -138,9 +138,19 @@ async function nothingMovesMeanwhile(browser, address) {
     await settled(browser);
 }
 
+/** A notice of any height gives the window no bar. */
+async function noBarOfNotices(browser, address) {
+    await browser.size(390, 844);
+    await browser.open(`${address}?lang=en&door=work`);
+    await browser.value("laboratoryOfPage().tell({ kind: 'printedMuch', count: 20000 })");
+    await browser.value("void Object.assign(document.querySelector('#notice').style, { maxHeight: 'none', height: '600px' })");
+    assert.deepEqual(await browser.value("[document.querySelector('#notice').getBoundingClientRect().height, document.documentElement.scrollHeight <= innerHeight]"), [600, true]);
+}
+
 /** Nothing moves: not when a run begins, nor when something is printed, nor when a notice comes. */
 async function nothingMoves(browser, address) {
     await nothingMovesMeanwhile(browser, address);
+    await noBarOfNotices(browser, address);
     for (const [place, [width, height]] of SIZES.entries()) {
         await browser.size(width, height);
         await browser.open(`${address}?lang=${place % 2 === 0 ? "en" : "de"}&door=work`);
