@@ -211,8 +211,7 @@ async function noticesWhole(browser, address) {
                 assert.deepEqual(await notWhole(browser), [0, [], true], `${code}, ${name} behind ${behind} at ${width} by ${height}`);
             }
             await browser.value("laboratoryOfPage().tell(null)");
-            // on a telephone the offer is a list of two lines that is scrolled, so that the clock of a lesson stays in the window
-            if (width <= 760 || await browser.value("!document.querySelector('#kept').checkVisibility()")) continue;
+            if (await browser.value("!document.querySelector('#kept').checkVisibility()")) continue;
             offers += 1;
             assert.deepEqual(await notWhole(browser, "kept"), [0, [], true], `${code}, the offer behind ${behind} at ${width} by ${height}`);
             assert.equal(await browser.value("document.querySelector('.pace')?.querySelector('.when').checkVisibility() !== false"), true);
