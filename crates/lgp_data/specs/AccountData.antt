@@ -19,7 +19,7 @@ use Rattle.lgp_trace.specs.declared.account.Operand.{Operand}
 use Rattle.lgp_trace.specs.declared.phases.Phases.{Phases}
 use Rattle.lgp_fields.specs.Plain.{Plain, PlainField, field, Nothing, Number, Text}
 use Rattle.lgp_fields.specs.Printed.{record_in, signed_text}
-use Rattle.lgp_fields.specs.declared.records.Form.{Form}
+use Rattle.lgp_fields.specs.declared.records.RecordForm.{RecordForm}
 use Rattle.lgp_data.specs.ShowData.{sign_value}
 use Rattle.lgp_data.specs.WhyData.{clock_of, order_of}
 use Rattle.lgp_data.specs.Words.{labelled_order, labelled_place, number_size, whole_number, word_order}
@@ -135,5 +135,5 @@ account_record names account origin =
     ++ (stored_fields names (stored_operand account.order account.operand)
     ++ paper_fields account))
 
-unfoldable pub account_in : Form → List (List ℕ × ℕ) → Account → Option Origin → List ℕ
+unfoldable pub account_in : RecordForm → List (List ℕ × ℕ) → Account → Option Origin → List ℕ
 account_in form names account origin = record_in form (account_record names account origin)

@@ -3,14 +3,14 @@
 use Rattle.std.specs.Prelude.{ℕ, ◌++◌, List, [], ◌∷◌, codes, sum}
 use Rattle.lgp_word.specs.Address.{sector_of}
 use Rattle.lgp_word.specs.Digits.{address_digits}
-use Rattle.lgp_trace.specs.Gains.{Moves, best_of, gains_of, ranking, times_of}
-use Rattle.lgp_trace.specs.declared.optimum.Best.{Best}
-use Rattle.lgp_trace.specs.declared.ranking.Gain.{Gain}
-use Rattle.lgp_trace.specs.declared.uses.Freedom.{Freedom}
-use Rattle.lgp_trace.specs.declared.uses.Freedom.TheVariants as freedoms
+use Rattle.lgp_optimum.specs.Gains.{Moves, best_of, gains_of, ranking, times_of}
+use Rattle.lgp_optimum.specs.declared.optimum.Best.{Best}
+use Rattle.lgp_optimum.specs.declared.ranking.Gain.{Gain}
+use Rattle.lgp_optimum.specs.declared.uses.Freedom.{Freedom}
+use Rattle.lgp_optimum.specs.declared.uses.Freedom.TheVariants as freedoms
 use Rattle.lgp_fields.specs.Plain.{PlainField, field, Number, Numbers, Text}
 use Rattle.lgp_fields.specs.Printed.{record_in}
-use Rattle.lgp_fields.specs.declared.records.Form.{Form}
+use Rattle.lgp_fields.specs.declared.records.RecordForm.{RecordForm}
 use Rattle.lgp_data.specs.Words.{name_of}
 
 -- whether a word may be moved, in a word and in a sentence
@@ -49,17 +49,17 @@ gain_record names freedom gain =
     ∷ field (codes "freedom") (Text (freedom_word freedom))
     ∷ []
 
-unfoldable pub gains_in : Form → List (List ℕ × ℕ) → Freedom → List Gain → List ℕ
+unfoldable pub gains_in : RecordForm → List (List ℕ × ℕ) → Freedom → List Gain → List ℕ
 gains_in form names freedom [] = []
 gains_in form names freedom (gain ∷ more) =
     record_in form (gain_record names freedom gain) ++ gains_in form names freedom more
 
 -- the ten words of a freedom with most to gain
-unfoldable pub section_in : Form → List (List ℕ × ℕ) → Moves → Freedom → List ℕ
+unfoldable pub section_in : RecordForm → List (List ℕ × ℕ) → Moves → Freedom → List ℕ
 section_in form names moves freedom = gains_in form names freedom (ranking moves freedom 10)
 
 -- of a given number of orders: the words that may be moved, and then those that may not
-unfoldable pub optimum_in : Form → List (List ℕ × ℕ) → ℕ → Moves → List ℕ
+unfoldable pub optimum_in : RecordForm → List (List ℕ × ℕ) → ℕ → Moves → List ℕ
 optimum_in form names orders moves =
     record_in form (totals_record orders moves.took (sum (gains_of moves freedoms.Free)))
     ++ (section_in form names moves freedoms.Free

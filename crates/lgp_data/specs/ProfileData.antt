@@ -6,7 +6,7 @@ use Rattle.lgp_trace.specs.Profile.{Profiled}
 use Rattle.lgp_trace.specs.ProfileLines.{dearest_after, places_text, turns_text}
 use Rattle.lgp_fields.specs.Plain.{PlainField, field, Number, Text}
 use Rattle.lgp_fields.specs.Printed.{record_in}
-use Rattle.lgp_fields.specs.declared.records.Form.{Form}
+use Rattle.lgp_fields.specs.declared.records.RecordForm.{RecordForm}
 use Rattle.lgp_data.specs.Words.{labelled_place}
 
 -- how many orders, word times and turns there were, the word times by phase, and those of the
@@ -30,11 +30,11 @@ place_record names here =
     ∷ field (codes "times") (Number here.1)
     ∷ []
 
-abbrev pub place_in : Form → List (List ℕ × ℕ) → ℕ × ℕ → List ℕ
+abbrev pub place_in : RecordForm → List (List ℕ × ℕ) → ℕ × ℕ → List ℕ
 place_in form names here = record_in form (place_record names here)
 
 -- the profile of a given number of orders
-unfoldable pub profile_in : Form → List (List ℕ × ℕ) → ℕ → Profiled → List ℕ
+unfoldable pub profile_in : RecordForm → List (List ℕ × ℕ) → ℕ → Profiled → List ℕ
 profile_in form names orders profile =
     record_in form (profile_record orders profile)
     ++ places_text (place_in form names) profile.places 10 (dearest_after profile.places None)

@@ -18,7 +18,7 @@ use Rattle.lgp_table.specs.State.{word_at}
 use Rattle.lgp_debugger.specs.Debugging.{Debugging}
 use Rattle.lgp_fields.specs.Plain.{Plain, PlainField, field, Nothing, Number, Text, YesNo}
 use Rattle.lgp_fields.specs.Printed.{record_in}
-use Rattle.lgp_fields.specs.declared.records.Form.{Form}
+use Rattle.lgp_fields.specs.declared.records.RecordForm.{RecordForm}
 use Rattle.lgp_data.specs.Words.{name_of, whole_number, word_order}
 
 -- ---- words
@@ -47,7 +47,7 @@ shown_of names d address =
     (is_some (latest_change address d.steps))
 
 -- the records of a given number of words from an address on
-unfoldable pub shown_in : Form → List (List ℕ × ℕ) → Debugging → ℕ → ℕ → List ℕ
+unfoldable pub shown_in : RecordForm → List (List ℕ × ℕ) → Debugging → ℕ → ℕ → List ℕ
 shown_in form names d address zero = []
 shown_in form names d address (suc count) =
     shown_in form names d address count
@@ -65,13 +65,13 @@ label_record declared symbol =
     ∷ field (codes "line") (option_map_or Number (line_of_name declared (Some symbol.0)) Nothing)
     ∷ []
 
-unfoldable pub labels_listed : Form → NameList → List (List ℕ × ℕ) → List ℕ
+unfoldable pub labels_listed : RecordForm → NameList → List (List ℕ × ℕ) → List ℕ
 labels_listed form declared [] = []
 labels_listed form declared (symbol ∷ more) =
     record_in form (label_record declared symbol) ++ labels_listed form declared more
 
 -- the names of a source
-unfoldable pub labels_in : Form → List ℕ → List (List ℕ × ℕ) → List ℕ
+unfoldable pub labels_in : RecordForm → List ℕ → List (List ℕ × ℕ) → List ℕ
 labels_in form source symbols = labels_listed form (declared_in (all_lines source)) symbols
 
 -- ---- rules
@@ -94,7 +94,7 @@ rule_record names number rule =
     ∷ []
 
 -- rules whose first has this number
-unfoldable pub rules_in : Form → List (List ℕ × ℕ) → ℕ → List Rule → List ℕ
+unfoldable pub rules_in : RecordForm → List (List ℕ × ℕ) → ℕ → List Rule → List ℕ
 rules_in form names number [] = []
 rules_in form names number (rule ∷ more) =
     record_in form (rule_record names number rule)
@@ -115,13 +115,13 @@ code_record number code =
     ∷ []
 
 -- codes, before whose first a given number were printed
-unfoldable pub codes_in : Form → ℕ → List ℕ → List ℕ
+unfoldable pub codes_in : RecordForm → ℕ → List ℕ → List ℕ
 codes_in form number [] = []
 codes_in form number (code ∷ more) =
     record_in form (code_record number code) ++ codes_in form (number + 1) more
 
 -- those after the first ones
-unfoldable pub printed_in : Form → ℕ → List ℕ → List ℕ
+unfoldable pub printed_in : RecordForm → ℕ → List ℕ → List ℕ
 printed_in form from printed = codes_in form from (drop from printed)
 
 -- ---- the tape

@@ -11,7 +11,7 @@ use Rattle.lgp_assembler.specs.declared.refusal.FaultKind.{FaultKind}
 use Rattle.lgp_assembler.specs.declared.surveying.LineSurvey.{LineSurvey}
 use Rattle.lgp_fields.specs.Plain.{Plain, PlainField, field, Nothing, Number, Numbers, Text}
 use Rattle.lgp_fields.specs.Printed.{record_in}
-use Rattle.lgp_fields.specs.declared.records.Form.{Form}
+use Rattle.lgp_fields.specs.declared.records.RecordForm.{RecordForm}
 use Rattle.lgp_data.specs.Words.{place_value}
 
 -- ---- columns, in bytes from 0: where something begins, and where it has ended
@@ -77,12 +77,12 @@ next_record number [] known = missing_record number known
 next_record number (line ∷ lines) known = line_record line known
 
 -- lines from a number on, with what is known of each
-unfoldable pub source_lines_in : Form → ℕ → List SourceLine → List LineSurvey → List ℕ
+unfoldable pub source_lines_in : RecordForm → ℕ → List SourceLine → List LineSurvey → List ℕ
 source_lines_in form number lines [] = []
 source_lines_in form number lines (known ∷ more) =
     record_in form (next_record number lines known)
     ++ source_lines_in form (number + 1) (drop 1 lines) more
 
 -- a source: its lines, and the one that is missing where it has no end line
-unfoldable pub source_in : Form → List ℕ → List ℕ
+unfoldable pub source_in : RecordForm → List ℕ → List ℕ
 source_in form source = source_lines_in form 1 (lines_of source) (survey_of source)

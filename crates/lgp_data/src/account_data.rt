@@ -16,7 +16,7 @@ use crate::paper_data::sign_value;
 use crate::why_data::{changer_of, clock_of, lost_digits, lost_number, order_of, orders_ago};
 use crate::words::{labelled_order, labelled_place};
 use lgp_assembler::Name;
-use lgp_fields::{Field, Form, Value, push_joined};
+use lgp_fields::{Field, RecordForm, Value, push_joined};
 use lgp_flexo::Code;
 use lgp_history::{Changer, Origin, PastOrder};
 use lgp_table::{Status, stores};
@@ -296,7 +296,7 @@ fn effect_fields<'a>(
 #[tactic(auto, unfolding(crate::specs::AccountData::account_record))]
 fn push_parts<'a, A: Allocator>(
     text: &mut Vec<u8, A>,
-    form: Form,
+    form: RecordForm,
     names: &'a [(Name, u16)],
     account: &Account,
     origin: &Option<Origin>,
@@ -317,7 +317,7 @@ fn push_parts<'a, A: Allocator>(
 #[tactic(auto, unfolding(crate::specs::AccountData::account_in))]
 pub fn push_account_data<A: Allocator>(
     text: &mut Vec<u8, A>,
-    form: Form,
+    form: RecordForm,
     names: &[(Name, u16)],
     account: &Account,
     origin: &Option<Origin>,
@@ -332,7 +332,7 @@ pub fn push_account_data<A: Allocator>(
 /// Orders as records in a form, with names as labels of addresses.
 #[derive(Clone, Copy)]
 pub struct AccountRecords<'a> {
-    pub form: Form,
+    pub form: RecordForm,
     pub names: &'a [(Name, u16)],
 }
 

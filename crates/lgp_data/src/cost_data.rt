@@ -11,7 +11,7 @@ ghost use Rattle.lgp_data.specs.CostData.{act_at, cost_record, find_at, next_at,
 use crate::words::{name_of, performed_order};
 use lgp_assembler::Name;
 use lgp_debugger::Debugger;
-use lgp_fields::{Field, Form, Value, push_joined};
+use lgp_fields::{Field, RecordForm, Value, push_joined};
 use lgp_history::History;
 use lgp_machine::Machine;
 use lgp_phases::{seek_time, wait};
@@ -118,7 +118,7 @@ fn next_fields(names: &[(Name, u16)], next: Address, find: u64) -> [Field<'_>; 3
 #[tactic(auto, unfolding(crate::specs::CostData::cost_record, crate::specs::CostData::phase_fields))]
 pub fn push_cost_data<H: History<B>, A: Allocator, B: Allocator>(
     text: &mut Vec<u8, A>,
-    form: Form,
+    form: RecordForm,
     names: &[(Name, u16)],
     debugger: &Debugger<H, B>,
     place: Address,

@@ -11,7 +11,7 @@ ghost use Rattle.lgp_data.specs.ShowData.{label_record, labels_in, labels_listed
 
 use crate::words::name_of;
 use lgp_assembler::{Name, NameValues, Names, declared_names};
-use lgp_fields::{Field, Form, Value, push_record};
+use lgp_fields::{Field, RecordForm, Value, push_record};
 use lgp_history::Rule;
 use lgp_word::Address;
 use std::alloc::{AllocError, Allocator};
@@ -42,7 +42,7 @@ fn line_of<A: Allocator>(declared: &Names<A>, name: &[u8]) -> Value<'static>
 #[tactic(auto, unfolding(crate::specs::ShowData::label_record))]
 fn push_label<A: Allocator, B: Allocator>(
     text: &mut Vec<u8, A>,
-    form: Form,
+    form: RecordForm,
     declared: &Names<B>,
     symbol: &(Name, u16),
 ) -> Result<(), AllocError>
@@ -61,7 +61,7 @@ fn push_label<A: Allocator, B: Allocator>(
 #[tactic(auto, unfolding(crate::specs::ShowData::labels_listed))]
 fn push_listed<A: Allocator, B: Allocator>(
     text: &mut Vec<u8, A>,
-    form: Form,
+    form: RecordForm,
     declared: &Names<B>,
     symbols: &[(Name, u16)],
 ) -> Result<(), AllocError>
@@ -79,7 +79,7 @@ fn push_listed<A: Allocator, B: Allocator>(
 pub fn push_labels_data<A: Allocator + Copy>(
     alloc: A,
     text: &mut Vec<u8, A>,
-    form: Form,
+    form: RecordForm,
     source: &[u8],
     symbols: &[(Name, u16)],
 ) -> Result<(), AllocError>
@@ -113,7 +113,7 @@ fn rule_place(rule: &Rule) -> Address
 #[tactic(auto, unfolding(crate::specs::ShowData::rule_record))]
 fn push_rule<A: Allocator>(
     text: &mut Vec<u8, A>,
-    form: Form,
+    form: RecordForm,
     names: &[(Name, u16)],
     number: u64,
     rule: &Rule,
@@ -135,7 +135,7 @@ fn push_rule<A: Allocator>(
 #[tactic(auto, unfolding(crate::specs::ShowData::rules_in))]
 pub fn push_rules_data<A: Allocator>(
     text: &mut Vec<u8, A>,
-    form: Form,
+    form: RecordForm,
     names: &[(Name, u16)],
     rules: &[Rule],
 ) -> Result<(), AllocError>

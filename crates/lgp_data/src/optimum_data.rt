@@ -2,16 +2,16 @@
 
 ghost use Rattle.std.specs.Prelude.{◌≡◌, ◌++◌, ℕ, OnOk, false, sum, true};
 ghost use Rattle.lgp_table.specs.State.{State};
-ghost use Rattle.lgp_trace.specs.Gains.{gains_of, moves_in, moves_of};
-ghost use Rattle.lgp_trace.specs.OptimumKept.{IsOptimumOf};
+ghost use Rattle.lgp_optimum.specs.Gains.{gains_of, moves_in, moves_of};
+ghost use Rattle.lgp_optimum.specs.OptimumKept.{IsOptimumOf};
 ghost use Rattle.lgp_fields.specs.Printed.{record_in};
 ghost use Rattle.lgp_fields.specs.Seen.{fields_seen};
 ghost use Rattle.lgp_data.specs.OptimumData.{freedom_sentence, freedom_word, gain_record, gains_in, numbers_record, optimum_in, section_in, totals_record, word_moves_record};
 
 use crate::words::name_of;
 use lgp_assembler::Name;
-use lgp_fields::{Field, Form, Value, push_record};
-use lgp_trace::{Best, Freedom, Gain, Optimum};
+use lgp_fields::{Field, RecordForm, Value, push_record};
+use lgp_optimum::{Best, Freedom, Gain, Optimum};
 use lgp_word::Address;
 use std::alloc::{AllocError, Allocator};
 
@@ -47,7 +47,7 @@ fn freedom_sentence(free: Freedom) -> &'static [u8]
 /// Appends the orders, their word times, and what all words that may be moved save together.
 fn push_totals<A: Allocator, B: Allocator>(
     text: &mut Vec<u8, A>,
-    form: Form,
+    form: RecordForm,
     orders: u64,
     optimum: &Optimum<B>,
 ) -> Result<(), AllocError>
@@ -82,7 +82,7 @@ fn gain_fields<'a>(names: &'a [(Name, u16)], free: Freedom, gain: &Gain) -> [Fie
 #[tactic(auto, unfolding(crate::specs::OptimumData::gains_in))]
 fn push_gains<A: Allocator>(
     text: &mut Vec<u8, A>,
-    form: Form,
+    form: RecordForm,
     names: &[(Name, u16)],
     free: Freedom,
     gains: &[Gain],
@@ -101,7 +101,7 @@ fn push_gains<A: Allocator>(
 fn push_section<A: Allocator + Copy, B: Allocator>(
     alloc: A,
     text: &mut Vec<u8, A>,
-    form: Form,
+    form: RecordForm,
     names: &[(Name, u16)],
     optimum: &Optimum<B>,
     free: Freedom,
@@ -118,7 +118,7 @@ fn push_section<A: Allocator + Copy, B: Allocator>(
 fn push_moves<A: Allocator + Copy, B: Allocator>(
     alloc: A,
     text: &mut Vec<u8, A>,
-    form: Form,
+    form: RecordForm,
     names: &[(Name, u16)],
     orders: u64,
     optimum: &Optimum<B>,
@@ -137,7 +137,7 @@ fn push_moves<A: Allocator + Copy, B: Allocator>(
 pub fn push_optimum_data<A: Allocator + Copy, B: Allocator>(
     alloc: A,
     text: &mut Vec<u8, A>,
-    form: Form,
+    form: RecordForm,
     names: &[(Name, u16)],
     orders: u64,
     optimum: &Optimum<B>,
@@ -182,7 +182,7 @@ fn numbers_fields<'a>(
 #[tactic(auto, unfolding(crate::specs::OptimumData::word_moves_record))]
 fn push_word_moves<A: Allocator, B: Allocator>(
     text: &mut Vec<u8, A>,
-    form: Form,
+    form: RecordForm,
     names: &[(Name, u16)],
     orders: u64,
     optimum: &Optimum<B>,
@@ -201,7 +201,7 @@ fn push_word_moves<A: Allocator, B: Allocator>(
 /// a form.
 pub fn push_word_optimum_data<A: Allocator, B: Allocator>(
     text: &mut Vec<u8, A>,
-    form: Form,
+    form: RecordForm,
     names: &[(Name, u16)],
     orders: u64,
     optimum: &Optimum<B>,

@@ -7,7 +7,7 @@ ghost use Rattle.lgp_table.specs.Interleaving.{is_boundary};
 ghost use Rattle.lgp_fields.specs.Seen.{value_seen};
 ghost use Rattle.lgp_data.specs.ShowData.{code_record, codes_in, printed_in, sign_value, tape_record, tape_texts};
 
-use lgp_fields::{Field, Form, Value, push_record};
+use lgp_fields::{Field, RecordForm, Value, push_record};
 use lgp_flexo::{Code, sign_of, write_tape_text};
 use lgp_machine::Machine;
 use std::alloc::{AllocError, Allocator};
@@ -36,7 +36,7 @@ pub(crate) fn sign_value(code: Code) -> Value<'static>
 #[tactic(auto, unfolding(crate::specs::ShowData::code_record))]
 fn push_code<A: Allocator>(
     text: &mut Vec<u8, A>,
-    form: Form,
+    form: RecordForm,
     number: u64,
     code: Code,
 ) -> Result<(), AllocError>
@@ -55,7 +55,7 @@ fn push_code<A: Allocator>(
 #[tactic(auto, unfolding(crate::specs::ShowData::codes_in))]
 fn push_codes<A: Allocator>(
     text: &mut Vec<u8, A>,
-    form: Form,
+    form: RecordForm,
     from: u64,
     codes: &[Code],
 ) -> Result<(), AllocError>
@@ -75,7 +75,7 @@ fn push_codes<A: Allocator>(
 #[tactic(auto, unfolding(crate::specs::ShowData::printed_in))]
 pub fn push_printed_data<A: Allocator>(
     text: &mut Vec<u8, A>,
-    form: Form,
+    form: RecordForm,
     from: u64,
     printed: &[Code],
 ) -> Result<(), AllocError>
@@ -91,7 +91,7 @@ pub fn push_printed_data<A: Allocator>(
 /// Appends the record of these texts.
 fn push_tape_texts<'a, A: Allocator>(
     text: &mut Vec<u8, A>,
-    form: Form,
+    form: RecordForm,
     passed: &'a [u8],
     left: &'a [u8],
 ) -> Result<(), AllocError>
@@ -110,7 +110,7 @@ fn push_tape_texts<'a, A: Allocator>(
 pub fn push_tape_data<A: Allocator + Copy, B: Allocator, C: Allocator>(
     alloc: A,
     text: &mut Vec<u8, B>,
-    form: Form,
+    form: RecordForm,
     machine: &Machine<C>,
 ) -> Result<(), AllocError>
     requires { IsTrue (is_boundary machine.now) }

@@ -10,7 +10,7 @@ ghost use Rattle.lgp_data.specs.ProfileData.{place_in, place_record, profile_in,
 
 use crate::words::labelled_place;
 use lgp_assembler::Name;
-use lgp_fields::{Field, Form, Value, push_record};
+use lgp_fields::{Field, RecordForm, Value, push_record};
 use lgp_text::Piece;
 use lgp_trace::{Places, Profile, push_places};
 use lgp_word::Address;
@@ -54,7 +54,7 @@ fn whole_fields<'a, A: Allocator>(
 /// Appends the record of the whole, with its turns.
 fn push_whole_with<'a, A: Allocator, B: Allocator>(
     text: &mut Vec<u8, A>,
-    form: Form,
+    form: RecordForm,
     orders: u64,
     profile: &Profile<B>,
     turns: &'a [Piece<'a>],
@@ -70,7 +70,7 @@ fn push_whole_with<'a, A: Allocator, B: Allocator>(
 /// Appends the record of the whole.
 fn push_whole<A: Allocator, B: Allocator>(
     text: &mut Vec<u8, A>,
-    form: Form,
+    form: RecordForm,
     orders: u64,
     profile: &Profile<B>,
 ) -> Result<(), AllocError>
@@ -84,7 +84,7 @@ fn push_whole<A: Allocator, B: Allocator>(
 /// Places as records in a form, with names as labels.
 #[derive(Clone, Copy)]
 struct PlaceRecords<'a> {
-    form: Form,
+    form: RecordForm,
     names: &'a [(Name, u16)],
 }
 
@@ -110,7 +110,7 @@ impl Places for PlaceRecords<'_> {
 #[tactic(auto, unfolding(crate::specs::ProfileData::profile_in))]
 pub fn push_profile_data<A: Allocator, B: Allocator>(
     text: &mut Vec<u8, A>,
-    form: Form,
+    form: RecordForm,
     names: &[(Name, u16)],
     orders: u64,
     profile: &Profile<B>,

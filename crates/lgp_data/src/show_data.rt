@@ -12,7 +12,7 @@ ghost use Rattle.lgp_data.specs.ShowData.{shown_of, shown_record, word_fields};
 use crate::words::{name_of, whole_number, word_order};
 use lgp_assembler::Name;
 use lgp_debugger::Debugger;
-use lgp_fields::{Field, Form, Value, push_joined};
+use lgp_fields::{Field, RecordForm, Value, push_joined};
 use lgp_fraction::Fraction;
 use lgp_history::Origins;
 use lgp_word::{Address, Word};
@@ -50,7 +50,7 @@ fn changed_field(changed: bool) -> [Field<'static>; 1]
 #[tactic(auto, unfolding(crate::specs::ShowData::shown_record))]
 fn push_word<A: Allocator>(
     text: &mut Vec<u8, A>,
-    form: Form,
+    form: RecordForm,
     names: &[(Name, u16)],
     address: Address,
     word: Word,
@@ -77,7 +77,7 @@ fn is_changed<H: Origins<B>, B: Allocator>(debugger: &Debugger<H, B>, address: A
 #[tactic(auto, unfolding(crate::specs::ShowData::shown_of))]
 pub fn push_shown<H: Origins<B>, A: Allocator, B: Allocator>(
     text: &mut Vec<u8, A>,
-    form: Form,
+    form: RecordForm,
     names: &[(Name, u16)],
     debugger: &Debugger<H, B>,
     address: Address,

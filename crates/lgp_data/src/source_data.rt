@@ -9,7 +9,7 @@ ghost use Rattle.lgp_data.specs.SourceData.{comment_value, digits_value, fault_p
 
 use crate::words::place_value;
 use lgp_assembler::{FaultKind, LineSurvey, part_of, survey};
-use lgp_fields::{Field, Form, Value, push_record};
+use lgp_fields::{Field, RecordForm, Value, push_record};
 use lgp_source::{Line, Lines, Token, before_comment};
 use lgp_word::Word;
 use std::alloc::{AllocError, Allocator};
@@ -135,7 +135,7 @@ fn missing_record(number: u64, known: &LineSurvey) -> [Field<'static>; 2]
 /// Appends the record of the next line, or of one that is missing.
 fn push_next<A: Allocator>(
     text: &mut Vec<u8, A>,
-    form: Form,
+    form: RecordForm,
     number: u64,
     lines: &mut Lines,
     known: &LineSurvey,
@@ -154,7 +154,7 @@ fn push_next<A: Allocator>(
 #[tactic(auto, unfolding(crate::specs::SourceData::source_lines_in))]
 fn push_source_lines<A: Allocator>(
     text: &mut Vec<u8, A>,
-    form: Form,
+    form: RecordForm,
     source: &[u8],
     surveys: &[LineSurvey],
 ) -> Result<(), AllocError>
@@ -173,7 +173,7 @@ fn push_source_lines<A: Allocator>(
 pub fn push_source_data<A: Allocator + Copy>(
     alloc: A,
     text: &mut Vec<u8, A>,
-    form: Form,
+    form: RecordForm,
     source: &[u8],
 ) -> Result<(), AllocError>
     ensures { OnOk result (text.new.items ≡ text.old.items ++ source_in form source.now) }

@@ -15,7 +15,7 @@ use crate::way::{state_sentence, way_kind, way_sentence};
 use crate::words::{bits_order, name_of, whole_number, word_order};
 use lgp_assembler::Name;
 use lgp_debugger::Debugger;
-use lgp_fields::{Field, Form, Value, push_joined};
+use lgp_fields::{Field, RecordForm, Value, push_joined};
 use lgp_history::{Changer, History, Origin, Origins, Rule};
 use lgp_machine::Look;
 use lgp_table::{Action, Mode, Status};
@@ -201,7 +201,7 @@ fn left_on_tape<H: History<B>, B: Allocator>(debugger: &Debugger<H, B>) -> u64
 #[tactic(auto, unfolding(crate::specs::StateData::state_record))]
 pub fn push_state_data<H: Origins<B>, A: Allocator, B: Allocator>(
     text: &mut Vec<u8, A>,
-    form: Form,
+    form: RecordForm,
     names: &[(Name, u16)],
     debugger: &Debugger<H, B>,
 ) -> Result<(), AllocError>
@@ -239,7 +239,7 @@ fn digits_fields(look: &Look) -> [Field<'static>; 2]
 #[tactic(auto, unfolding(crate::specs::StateData::panel_record))]
 pub fn push_panel_data<H: History<B>, A: Allocator, B: Allocator>(
     text: &mut Vec<u8, A>,
-    form: Form,
+    form: RecordForm,
     debugger: &Debugger<H, B>,
 ) -> Result<(), AllocError>
     ensures { OnOk result (text.new.items ≡ text.old.items ++ record_in form

@@ -13,7 +13,7 @@ use crate::show_data::word_fields;
 use crate::words::{name_of, performed_order, place_value, whole_number, word_order};
 use lgp_assembler::Name;
 use lgp_debugger::Debugger;
-use lgp_fields::{Field, Form, Value, push_joined};
+use lgp_fields::{Field, RecordForm, Value, push_joined};
 use lgp_history::{Changer, Origin, Origins, PastOrder};
 use lgp_word::{Address, Word};
 use std::alloc::{AllocError, Allocator};
@@ -175,7 +175,7 @@ fn lost_fields(lost: &Option<Word>) -> [Field<'static>; 3]
 #[tactic(auto, unfolding(crate::specs::WhyData::why_of))]
 pub fn push_why_data<H: Origins<B>, A: Allocator, B: Allocator>(
     text: &mut Vec<u8, A>,
-    form: Form,
+    form: RecordForm,
     names: &[(Name, u16)],
     debugger: &Debugger<H, B>,
     address: Address,

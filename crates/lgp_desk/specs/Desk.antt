@@ -18,8 +18,8 @@ use Rattle.lgp_stream.specs.Transcript.{Recorded, untouched}
 use Rattle.lgp_text.specs.PanelWords.{status_text}
 use Rattle.lgp_script.specs.LabState.{LabState, opening_state}
 use Rattle.lgp_monitor.specs.FileTexts.{answer_to_dump, answer_to_tape}
-use Rattle.lgp_fields.specs.declared.records.Form.{Form}
-use Rattle.lgp_fields.specs.declared.records.Form.TheVariants.{Lines, Objects}
+use Rattle.lgp_fields.specs.declared.records.RecordForm.{RecordForm}
+use Rattle.lgp_fields.specs.declared.records.RecordForm.TheVariants.{Lines, Objects}
 use Rattle.lgp_monitor.specs.Monitor.{monitor_language, panel_at, reply_in}
 use Rattle.lgp_desk.specs.FileForms.{dump_in, tape_of, text_made}
 use Rattle.lgp_desk.specs.Files.{Drawer, takes, text_in, with_file}
@@ -119,7 +119,7 @@ within name note = if length note == 0 then name else name ++ (codes ", " ++ not
 -- ---- what is done, with the note that says where the line comes from
 
 -- the form of replies for programs
-abbrev pub form_in : Manner → Form
+abbrev pub form_in : Manner → RecordForm
 form_in Json = Objects
 form_in manner = Lines
 

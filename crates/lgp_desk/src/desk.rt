@@ -14,7 +14,7 @@ ghost use Rattle.lgp_desk.specs.declared.files.FileTrouble.{FileTrouble};
 use crate::files::{FileTrouble, Files};
 use crate::request::{Work, is_quit, request_in};
 use crate::trouble::{line_note, push_trouble};
-use crate::writing::{Manner, form_in, push_last, push_own, push_shown, push_written};
+use crate::writing::{Manner, REPLY_ROOM, form_in, push_last, push_own, push_shown, written};
 use lgp_lab::FileName;
 use lgp_monitor::{Monitor, Progress};
 use lgp_script::Laboratory;
@@ -147,13 +147,11 @@ impl<A: Allocator + Copy, P: Progress, F: Files> Desk<A, P, F> {
         ensures after { (text : List ℕ) → line.now ≡ kept_of text
             → OnOk result (self.new ≡ (answered note.now self.old text).seat) }
     {
-        let mut reply = Vec::new(self.alloc);
+        let mut reply = Vec::with_capacity(self.alloc, REPLY_ROOM)?;
         self.monitor
             .answer_in(form_in(self.manner), line, &mut reply)?;
-        let mut text = Vec::new(self.alloc);
         let (front, longer) = (line.front(), line.is_longer());
-        push_written(&mut text, self.manner, front, longer, note, &reply)?;
-        Ok(text)
+        written(self.alloc, self.manner, front, longer, note, reply)
     }
 
     /// Has the monitor answer a line.

@@ -1,13 +1,16 @@
 //! What is written for a reply.
 
-ghost use Rattle.std.specs.Prelude.{◌≡◌, ◌++◌, OnOk, codes, if◌then◌else◌};
+ghost use Rattle.std.specs.Prelude.{◌≡◌, ◌++◌, IfOk, OnOk, codes, if◌then◌else◌};
 ghost use Rattle.lgp_stream.specs.Language.{is_question};
 ghost use Rattle.lgp_desk.specs.Desk.{echo_in, echo_of, form_in, note_line, written, written_last, written_own};
 
 use crate::json;
-use lgp_fields::Form;
+use lgp_fields::RecordForm;
 use lgp_stream::is_question;
 use std::alloc::{AllocError, Allocator};
+
+/// For how many bytes there is room where a reply begins; most replies are shorter.
+pub(crate) const REPLY_ROOM: usize = 1024;
 
 /// How replies are written.
 #[derive(Clone, Copy, Debug, PartialEq, Eq)]
@@ -23,12 +26,12 @@ pub enum Manner {
 }
 
 /// The form of replies for programs.
-pub(crate) fn form_in(manner: Manner) -> Form
+pub(crate) fn form_in(manner: Manner) -> RecordForm
     ensures { result ≡ form_in manner }
 {
     match manner {
-        Manner::Json => Form::Objects,
-        Manner::Bare | Manner::Prompting | Manner::Echoing => Form::Lines,
+        Manner::Json => RecordForm::Objects,
+        Manner::Bare | Manner::Prompting | Manner::Echoing => RecordForm::Lines,
     }
 }
 
@@ -105,6 +108,18 @@ fn push_note_line<A: Allocator>(
     Ok(())
 }
 
+/// Appends to a reply where its line comes from.
+#[tactic(auto, unfolding(crate::specs::Desk::note_line))]
+fn note_reply<A: Allocator>(reply: &mut Vec<u8, A>, note: &[u8]) -> Result<(), AllocError>
+    ensures { OnOk result (reply.new.items
+        ≡ reply.old.items ++ note_line note.now reply.old.items) }
+{
+    if is_question(reply) && !note.is_empty() {
+        return push_note(reply, note);
+    }
+    Ok(())
+}
+
 /// Appends a reply and where its line comes from.
 fn push_noted<A: Allocator>(
     text: &mut Vec<u8, A>,
@@ -135,6 +150,31 @@ pub(crate) fn push_written<A: Allocator>(
     }
     push_shown(text, manner, front, longer, reply)?;
     push_noted(text, note, reply)
+}
+
+/// What is written for a line, of which this is the front. A reply that is written as it is has no second text.
+pub(crate) fn written<A: Allocator + Copy>(
+    alloc: A,
+    manner: Manner,
+    front: &[u8],
+    longer: bool,
+    note: &[u8],
+    mut reply: Vec<u8, A>,
+) -> Result<Vec<u8, A>, AllocError>
+    ensures { IfOk result (λ text. text.items
+        ≡ written manner front.now longer note.now reply.items) }
+{
+    match manner {
+        Manner::Bare | Manner::Prompting => {
+            note_reply(&mut reply, note)?;
+            Ok(reply)
+        }
+        Manner::Echoing | Manner::Json => {
+            let mut text = Vec::with_capacity(alloc, REPLY_ROOM)?;
+            push_written(&mut text, manner, front, longer, note, &reply)?;
+            Ok(text)
+        }
+    }
 }
 
 /// Appends what is written for a reply of the desk itself.

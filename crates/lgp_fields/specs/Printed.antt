@@ -5,8 +5,8 @@ use Rattle.std.specs.Prelude.{ℕ, ◌++◌, Bool, true, false, if◌then◌else
 use Rattle.std.specs.Prelude.{decimal, flat_map, nat_lt}
 use Rattle.lgp_fields.specs.Escaped.{escaped}
 use Rattle.lgp_fields.specs.Plain.{Plain, PlainField, Nothing, Number, Signed, YesNo, Numbers, Text}
-use Rattle.lgp_fields.specs.declared.records.Form.{Form}
-use Rattle.lgp_fields.specs.declared.records.Form.TheVariants as forms
+use Rattle.lgp_fields.specs.declared.records.RecordForm.{RecordForm}
+use Rattle.lgp_fields.specs.declared.records.RecordForm.TheVariants as forms
 
 -- what is in front of an item of a list: nothing in front of the first
 abbrev pub separated : Bool → List ℕ → List ℕ
@@ -76,6 +76,6 @@ record_json fields = codes "{" ++ (fields_json true fields ++ codes "}")
 -- ---- records
 
 -- a record in a form: a line for each field that has a value, or an object on a line of its own
-unfoldable pub record_in : Form → List PlainField → List ℕ
+unfoldable pub record_in : RecordForm → List PlainField → List ℕ
 record_in forms.Lines fields = record_lines fields
 record_in forms.Objects fields = record_json fields ++ codes "\n"

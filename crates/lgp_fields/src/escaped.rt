@@ -31,7 +31,7 @@ fn push_byte<A: Allocator>(text: &mut Vec<u8, A>, byte: u8) -> Result<(), AllocE
     ensures { OnOk result (text.new.items ≡ text.old.items ++ escaped_byte byte) }
 {
     if is_itself(byte) {
-        return text.extend_from_slice(&[byte]);
+        return Ok(text.push(byte)?);
     }
     if byte == b'"' || byte == b'\\' {
         return text.extend_from_slice(&[b'\\', byte]);

@@ -92,9 +92,9 @@ fn push_array<A: Allocator>(text: &mut Vec<u8, A>, numbers: &[u64]) -> Result<()
     ensures { OnOk result (text.new.items ≡ text.old.items
         ++ (codes "[" ++ (numbers_text number_json (codes ",") true numbers.now ++ codes "]"))) }
 {
-    text.extend_from_slice(b"[")?;
+    text.push(b'[')?;
     push_json_numbers(text, numbers)?;
-    text.extend_from_slice(b"]")
+    Ok(text.push(b']')?)
 }
 
 /// Appends numbers of up to 128 bits as an array.
@@ -102,9 +102,9 @@ fn push_wide_array<A: Allocator>(text: &mut Vec<u8, A>, numbers: &[u128]) -> Res
     ensures { OnOk result (text.new.items ≡ text.old.items
         ++ (codes "[" ++ (numbers_text number_json (codes ",") true numbers.now ++ codes "]"))) }
 {
-    text.extend_from_slice(b"[")?;
+    text.push(b'[')?;
     push_wide_json_numbers(text, numbers)?;
-    text.extend_from_slice(b"]")
+    Ok(text.push(b']')?)
 }
 
 /// Appends a text as a string.
@@ -112,9 +112,9 @@ fn push_string<A: Allocator>(text: &mut Vec<u8, A>, bytes: &[u8]) -> Result<(), 
     ensures { OnOk result (text.new.items ≡ text.old.items
         ++ (codes "\"" ++ (escaped bytes.now ++ codes "\""))) }
 {
-    text.extend_from_slice(b"\"")?;
+    text.push(b'"')?;
     push_escaped(text, bytes)?;
-    text.extend_from_slice(b"\"")
+    Ok(text.push(b'"')?)
 }
 
 /// Appends the text of pieces as a string.
@@ -125,9 +125,9 @@ fn push_pieces_string<A: Allocator>(
     ensures { OnOk result (text.new.items ≡ text.old.items
         ++ (codes "\"" ++ (escaped (pieces_text pieces.now) ++ codes "\""))) }
 {
-    text.extend_from_slice(b"\"")?;
+    text.push(b'"')?;
     push_escaped_pieces(text, pieces)?;
-    text.extend_from_slice(b"\"")
+    Ok(text.push(b'"')?)
 }
 
 /// Appends an address with its label as a string.
@@ -140,9 +140,9 @@ fn push_labelled_string<A: Allocator>(
         ++ (codes "\"" ++ (escaped (address_digits address ++ label_text label.now)
         ++ codes "\""))) }
 {
-    text.extend_from_slice(b"\"")?;
+    text.push(b'"')?;
     push_escaped_labelled(text, address, label)?;
-    text.extend_from_slice(b"\"")
+    Ok(text.push(b'"')?)
 }
 
 /// Appends an order with its label as a string.
@@ -157,9 +157,9 @@ fn push_order_string<A: Allocator>(
         ++ (codes "\"" ++ (escaped (order_text minus letter address ++ label_text label.now)
         ++ codes "\""))) }
 {
-    text.extend_from_slice(b"\"")?;
+    text.push(b'"')?;
     push_escaped_order(text, minus, letter, address, label)?;
-    text.extend_from_slice(b"\"")
+    Ok(text.push(b'"')?)
 }
 
 /// Appends a value.
@@ -199,7 +199,7 @@ fn push_field<A: Allocator>(text: &mut Vec<u8, A>, field: &Field) -> Result<(), 
     ensures { OnOk result (text.new.items
         ≡ text.old.items ++ field_json (field_seen field.now)) }
 {
-    text.extend_from_slice(b"\"")?;
+    text.push(b'"')?;
     push_escaped(text, field.0)?;
     text.extend_from_slice(b"\":")?;
     push_value(text, &field.1)
@@ -230,9 +230,9 @@ pub fn push_object<A: Allocator>(text: &mut Vec<u8, A>, fields: &[Field]) -> Res
     ensures { OnOk result (text.new.items
         ≡ text.old.items ++ record_json (fields_seen fields.now)) }
 {
-    text.extend_from_slice(b"{")?;
+    text.push(b'{')?;
     push_fields(text, true, fields)?;
-    text.extend_from_slice(b"}")
+    Ok(text.push(b'}')?)
 }
 
 /// Appends the object of a record whose fields come in three parts.
@@ -247,9 +247,9 @@ pub(crate) fn push_joined_object<A: Allocator>(
     ensures { OnOk result (text.new.items ≡ text.old.items ++ record_json
         (fields_seen front.now ++ (fields_seen middle.now ++ fields_seen back.now))) }
 {
-    text.extend_from_slice(b"{")?;
+    text.push(b'{')?;
     push_fields(text, true, front)?;
     push_fields(text, false, middle)?;
     push_fields(text, false, back)?;
-    text.extend_from_slice(b"}")
+    Ok(text.push(b'}')?)
 }

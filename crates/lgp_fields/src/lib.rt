@@ -5,7 +5,7 @@ pub use escaped::push_escaped;
 pub use field::{Field, Value};
 pub use json::push_object;
 pub use lines::push_lines;
-pub use records::{Form, push_joined, push_record};
+pub use records::{RecordForm, push_joined, push_record};
 
 mod escaped;
 mod field;

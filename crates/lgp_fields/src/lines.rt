@@ -7,8 +7,7 @@ ghost use Rattle.lgp_fields.specs.Seen.{field_seen, fields_seen, value_seen};
 use crate::escaped::push_escaped;
 use crate::field::{Field, Value};
 use crate::numbers::{push_number, push_numbers, push_signed, push_wide, push_wide_numbers};
-use crate::texts::{push_escaped_labelled, push_escaped_order, push_escaped_pieces};
-use lgp_word::write_bits;
+use crate::texts::{push_bits, push_escaped_labelled, push_escaped_order, push_escaped_pieces};
 use std::alloc::{AllocError, Allocator};
 
 /// The word for yes or no.
@@ -39,7 +38,7 @@ fn push_value<A: Allocator>(text: &mut Vec<u8, A>, value: &Value) -> Result<(), 
         Value::Text(bytes) => push_escaped(text, bytes),
         Value::Byte(byte) => push_escaped(text, &[byte]),
         Value::Pieces(pieces) => push_escaped_pieces(text, pieces),
-        Value::Digits(bits) => push_escaped(text, &write_bits(bits)),
+        Value::Digits(bits) => push_bits(text, bits),
         Value::Place(address) => push_escaped(text, &address.print()),
         Value::Labelled(address, label) => push_escaped_labelled(text, address, label),
         Value::Order(minus, letter, address) => {
@@ -61,9 +60,9 @@ fn push_field<A: Allocator>(text: &mut Vec<u8, A>, field: &Field) -> Result<(), 
         return Ok(());
     }
     text.extend_from_slice(field.0)?;
-    text.extend_from_slice(b" ")?;
+    text.push(b' ')?;
     push_value(text, &field.1)?;
-    text.extend_from_slice(b"\n")
+    Ok(text.push(b'\n')?)
 }
 
 /// Appends the lines of a record, one for each field that has a value.

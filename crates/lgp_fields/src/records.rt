@@ -11,7 +11,7 @@ use std::alloc::{AllocError, Allocator};
 
 /// The form of a reply for programs.
 #[derive(Clone, Copy, Debug, PartialEq, Eq)]
-pub enum Form {
+pub enum RecordForm {
     /// A line for each field that has a value.
     Lines,
     /// An object of JSON for each record, on a line of its own.
@@ -24,7 +24,7 @@ fn push_object_line<A: Allocator>(text: &mut Vec<u8, A>, fields: &[Field]) -> Re
         ≡ text.old.items ++ (record_json (fields_seen fields.now) ++ codes "\n")) }
 {
     push_object(text, fields)?;
-    text.extend_from_slice(b"\n")
+    Ok(text.push(b'\n')?)
 }
 
 /// Appends the lines of a record whose fields come in three parts.
@@ -54,14 +54,14 @@ fn push_joined_object_line<A: Allocator>(
         (fields_seen front.now ++ (fields_seen middle.now ++ fields_seen back.now)) ++ codes "\n")) }
 {
     push_joined_object(text, front, middle, back)?;
-    text.extend_from_slice(b"\n")
+    Ok(text.push(b'\n')?)
 }
 
 /// Appends a record whose fields come in three parts.
 #[tactic(auto, unfolding(crate::specs::Printed::record_in))]
 pub fn push_joined<A: Allocator>(
     text: &mut Vec<u8, A>,
-    form: Form,
+    form: RecordForm,
     front: &[Field],
     middle: &[Field],
     back: &[Field],
@@ -71,8 +71,8 @@ pub fn push_joined<A: Allocator>(
         (fields_seen front.now ++ (fields_seen middle.now ++ fields_seen back.now))) }
 {
     match form {
-        Form::Lines => push_joined_lines(text, front, middle, back),
-        Form::Objects => push_joined_object_line(text, front, middle, back),
+        RecordForm::Lines => push_joined_lines(text, front, middle, back),
+        RecordForm::Objects => push_joined_object_line(text, front, middle, back),
     }
 }
 
@@ -80,14 +80,14 @@ pub fn push_joined<A: Allocator>(
 #[tactic(auto, unfolding(crate::specs::Printed::record_in))]
 pub fn push_record<A: Allocator>(
     text: &mut Vec<u8, A>,
-    form: Form,
+    form: RecordForm,
     fields: &[Field],
 ) -> Result<(), AllocError>
     ensures { OnOk result (text.new.items
         ≡ text.old.items ++ record_in form (fields_seen fields.now)) }
 {
     match form {
-        Form::Lines => push_lines(text, fields),
-        Form::Objects => push_object_line(text, fields),
+        RecordForm::Lines => push_lines(text, fields),
+        RecordForm::Objects => push_object_line(text, fields),
     }
 }

@@ -1,16 +1,23 @@
 //! The values that are texts.
 
-ghost use Rattle.std.specs.Prelude.{◌≡◌, ◌++◌, [], ◌==◌, OnOk, codes, decimal, if◌then◌else◌, length};
+ghost use Rattle.std.specs.Prelude.{◌≡◌, ◌++◌, OnOk, decimal};
 ghost use Rattle.lgp_text.specs.Pieces.{piece_text, pieces_text};
 ghost use Rattle.lgp_fields.specs.Escaped.{escaped};
 ghost use Rattle.lgp_fields.specs.Seen.{label_text, order_text};
-ghost use Rattle.lgp_word.specs.Digits.{address_digits};
+ghost use Rattle.lgp_word.specs.Digits.{address_digits, digits_of};
 
 use crate::escaped::push_escaped;
 use itoa::Buffer;
 use lgp_text::Piece;
 use lgp_word::{Address, write_bits};
 use std::alloc::{AllocError, Allocator};
+
+/// Appends 32 bits as eight digits, each of which is written as itself.
+pub(crate) fn push_bits<A: Allocator>(text: &mut Vec<u8, A>, bits: u32) -> Result<(), AllocError>
+    ensures { OnOk result (text.new.items ≡ text.old.items ++ escaped (digits_of bits)) }
+{
+    text.extend_from_slice(&write_bits(bits))
+}
 
 /// Appends a number's digits as a text.
 fn push_digits<A: Allocator>(text: &mut Vec<u8, A>, number: u64) -> Result<(), AllocError>
@@ -28,7 +35,7 @@ fn push_piece<A: Allocator>(text: &mut Vec<u8, A>, piece: &Piece) -> Result<(), 
         Piece::Text(bytes) => push_escaped(text, bytes),
         Piece::Number(number) => push_digits(text, number),
         Piece::Place(address) => push_escaped(text, &address.print()),
-        Piece::Digits(bits) => push_escaped(text, &write_bits(bits)),
+        Piece::Digits(bits) => push_bits(text, bits),
     }
 }
 
@@ -45,25 +52,15 @@ pub(crate) fn push_escaped_pieces<A: Allocator>(
     Ok(())
 }
 
-/// The minus of an order, if it has one.
-fn minus_text(minus: bool) -> &'static [u8]
-    ensures { result.now ≡ (if minus then codes "-" else []) }
-{
-    if minus { b"-" } else { b"" }
-}
-
-/// The blank in front of a label, if that is not empty.
-fn blank_before(label: &[u8]) -> &'static [u8]
-    ensures { result.now ≡ (if length label.now == 0 then [] else codes " ") }
-{
-    if label.is_empty() { b"" } else { b" " }
-}
-
 /// Appends a label after an address, if it is not empty.
+#[tactic(auto, unfolding(crate::specs::Seen::label_text))]
 fn push_escaped_label<A: Allocator>(text: &mut Vec<u8, A>, label: &[u8]) -> Result<(), AllocError>
     ensures { OnOk result (text.new.items ≡ text.old.items ++ escaped (label_text label.now)) }
 {
-    push_escaped(text, blank_before(label))?;
+    if label.is_empty() {
+        return Ok(());
+    }
+    text.push(b' ')?;
     push_escaped(text, label)
 }
 
@@ -90,9 +87,11 @@ fn push_escaped_parts<A: Allocator>(
     ensures { OnOk result (text.new.items
         ≡ text.old.items ++ escaped (order_text minus letter address)) }
 {
-    push_escaped(text, minus_text(minus))?;
-    push_escaped(text, &[letter, b' '])?;
-    push_escaped(text, &address.print())
+    if minus {
+        text.push(b'-')?;
+    }
+    let [a, b, c, d] = address.print();
+    push_escaped(text, &[letter, b' ', a, b, c, d])
 }
 
 /// Appends an order with its label.

@@ -8,7 +8,7 @@ use Rattle.std.specs.Str.{byte}
 use Rattle.bstr.specs.Text.{lines_of, without_terminator}
 use Rattle.lgp_fields.specs.Plain.{Plain, PlainField, Nothing, Text, field}
 use Rattle.lgp_fields.specs.Printed.{record_in}
-use Rattle.lgp_fields.specs.declared.records.Form.{Form}
+use Rattle.lgp_fields.specs.declared.records.RecordForm.{RecordForm}
 use Rattle.lgp_help.specs.declared.tables.TheConstants.{COMMAND_KEYS, COMMANDS, FAULT_KEYS, FAULTS}
 use Rattle.lgp_help.specs.declared.tables.TheConstants.{OPERATION_KEYS, OPERATIONS}
 
@@ -50,18 +50,18 @@ row_fields keys row =
 
 -- ---- tables
 
-unfoldable pub rows_text : Form → List ℕ → List (List ℕ) → List ℕ
+unfoldable pub rows_text : RecordForm → List ℕ → List (List ℕ) → List ℕ
 rows_text form keys [] = []
 rows_text form keys (row ∷ more) = record_in form (row_fields keys row) ++ rows_text form keys more
 
-abbrev pub table_text : Form → List ℕ → List ℕ → List ℕ
+abbrev pub table_text : RecordForm → List ℕ → List ℕ → List ℕ
 table_text form keys rows = rows_text form keys (map without_terminator (lines_of rows))
 
-unfoldable pub commands_text : Form → List ℕ
+unfoldable pub commands_text : RecordForm → List ℕ
 commands_text form = table_text form COMMAND_KEYS COMMANDS
 
-unfoldable pub operations_text : Form → List ℕ
+unfoldable pub operations_text : RecordForm → List ℕ
 operations_text form = table_text form OPERATION_KEYS OPERATIONS
 
-unfoldable pub faults_text : Form → List ℕ
+unfoldable pub faults_text : RecordForm → List ℕ
 faults_text form = table_text form FAULT_KEYS FAULTS

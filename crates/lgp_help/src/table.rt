@@ -9,7 +9,7 @@ ghost use Rattle.lgp_help.specs.Tables.{column_value, commands_text, faults_text
 
 use crate::tables::{COMMAND_KEYS, COMMANDS, FAULT_KEYS, FAULTS, OPERATION_KEYS, OPERATIONS};
 use bstr::ByteSlice;
-use lgp_fields::{Form, Value, push_record};
+use lgp_fields::{RecordForm, Value, push_record};
 use std::alloc::{AllocError, Allocator};
 
 /// The place of the first bar.
@@ -65,7 +65,7 @@ fn value_of(column: &[u8]) -> Value<'_>
 #[tactic(auto, unfolding(crate::specs::Tables::row_fields))]
 fn push_row<A: Allocator>(
     text: &mut Vec<u8, A>,
-    form: Form,
+    form: RecordForm,
     keys: &[u8],
     row: &[u8],
 ) -> Result<(), AllocError>
@@ -98,7 +98,7 @@ fn push_row<A: Allocator>(
 #[tactic(auto, unfolding(crate::specs::Tables::rows_text))]
 fn push_rows<A: Allocator>(
     text: &mut Vec<u8, A>,
-    form: Form,
+    form: RecordForm,
     keys: &[u8],
     rows: &[u8],
 ) -> Result<(), AllocError>
@@ -113,7 +113,10 @@ fn push_rows<A: Allocator>(
 
 /// Appends a record for each command.
 #[tactic(auto, unfolding(crate::specs::Tables::commands_text))]
-pub fn push_commands<A: Allocator>(text: &mut Vec<u8, A>, form: Form) -> Result<(), AllocError>
+pub fn push_commands<A: Allocator>(
+    text: &mut Vec<u8, A>,
+    form: RecordForm,
+) -> Result<(), AllocError>
     ensures { OnOk result (text.new.items ≡ text.old.items ++ commands_text form) }
 {
     push_rows(text, form, &COMMAND_KEYS, &COMMANDS)
@@ -121,7 +124,10 @@ pub fn push_commands<A: Allocator>(text: &mut Vec<u8, A>, form: Form) -> Result<
 
 /// Appends a record for each operation of the source language.
 #[tactic(auto, unfolding(crate::specs::Tables::operations_text))]
-pub fn push_operations<A: Allocator>(text: &mut Vec<u8, A>, form: Form) -> Result<(), AllocError>
+pub fn push_operations<A: Allocator>(
+    text: &mut Vec<u8, A>,
+    form: RecordForm,
+) -> Result<(), AllocError>
     ensures { OnOk result (text.new.items ≡ text.old.items ++ operations_text form) }
 {
     push_rows(text, form, &OPERATION_KEYS, &OPERATIONS)
@@ -129,7 +135,7 @@ pub fn push_operations<A: Allocator>(text: &mut Vec<u8, A>, form: Form) -> Resul
 
 /// Appends a record for each kind of fault.
 #[tactic(auto, unfolding(crate::specs::Tables::faults_text))]
-pub fn push_faults<A: Allocator>(text: &mut Vec<u8, A>, form: Form) -> Result<(), AllocError>
+pub fn push_faults<A: Allocator>(text: &mut Vec<u8, A>, form: RecordForm) -> Result<(), AllocError>
     ensures { OnOk result (text.new.items ≡ text.old.items ++ faults_text form) }
 {
     push_rows(text, form, &FAULT_KEYS, &FAULTS)

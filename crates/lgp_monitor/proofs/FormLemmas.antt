@@ -1,7 +1,7 @@
 -- What a line stands for is the same in both forms of a reply.
 use Rattle.std.proofs.Common.{◌≡◌, refl}
-use Rattle.lgp_fields.specs.declared.records.Form.{Form}
-use Rattle.lgp_fields.specs.declared.records.Form.TheVariants.{Lines, Objects}
+use Rattle.lgp_fields.specs.declared.records.RecordForm.{RecordForm}
+use Rattle.lgp_fields.specs.declared.records.RecordForm.TheVariants.{Lines, Objects}
 use Rattle.lgp_stream.specs.KeptLine.{Kept}
 use Rattle.lgp_stream.specs.Transcript.{Recorded}
 use Rattle.lgp_script.specs.LabState.{LabState}
@@ -10,7 +10,7 @@ use Rattle.lgp_monitor.specs.Monitor.{meaning_of}
 use Rattle.lgp_monitor.specs.declared.entry.Entry.{Entry}
 use Rattle.lgp_monitor.specs.declared.entry.Entry.TheVariants as entry
 
-pub same_meaning : (recorded : Recorded LabState) (form : Form) (asked : Entry) (kept : Kept)
+pub same_meaning : (recorded : Recorded LabState) (form : RecordForm) (asked : Entry) (kept : Kept)
     → meaning_of recorded (in_form form asked) kept ≡ meaning_of recorded asked kept
 same_meaning recorded Lines asked kept = refl
 same_meaning recorded Objects (entry.Asked question) kept = refl

@@ -16,8 +16,8 @@ use Rattle.lgp_text.specs.NamedValues.{named}
 use Rattle.lgp_command.specs.Command.{command_of, is_comment, lone_number}
 use Rattle.lgp_command.specs.Span.{WordRange, range_of}
 use Rattle.lgp_command.specs.declared.command.Command.TheVariants as commands
-use Rattle.lgp_fields.specs.declared.records.Form.{Form}
-use Rattle.lgp_fields.specs.declared.records.Form.TheVariants.{Lines, Objects}
+use Rattle.lgp_fields.specs.declared.records.RecordForm.{RecordForm}
+use Rattle.lgp_fields.specs.declared.records.RecordForm.TheVariants.{Lines, Objects}
 use Rattle.lgp_monitor.specs.Scaled.{point_of}
 use Rattle.lgp_monitor.specs.Verbs.{verb_names}
 use Rattle.lgp_monitor.specs.declared.data_question.DataQuestion.TheVariants as data_questions
@@ -192,7 +192,7 @@ is_line_verb verbs.Line = true
 is_line_verb verb = false
 
 -- what is asked for with replies for programs in a form
-abbrev pub in_form : Form → Entry → Entry
+abbrev pub in_form : RecordForm → Entry → Entry
 in_form Lines asked = asked
 in_form Objects asked = as_objects asked
 

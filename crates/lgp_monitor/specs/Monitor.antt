@@ -15,8 +15,8 @@ use Rattle.lgp_command.specs.Command.{is_comment, text_after_word}
 use Rattle.lgp_command.specs.CommandText.{command_text}
 use Rattle.lgp_command.specs.declared.command.Command.{Command}
 use Rattle.lgp_debugger.specs.Debugging.{order_origins}
-use Rattle.lgp_fields.specs.declared.records.Form.{Form}
-use Rattle.lgp_fields.specs.declared.records.Form.TheVariants.{Lines as AsLines}
+use Rattle.lgp_fields.specs.declared.records.RecordForm.{RecordForm}
+use Rattle.lgp_fields.specs.declared.records.RecordForm.TheVariants.{Lines as AsLines}
 use Rattle.lgp_script.specs.Script.{replied_to, script_language}
 use Rattle.lgp_script.specs.HistoryCommands.{orders_run, replied_to_run}
 use Rattle.lgp_script.specs.LabState.{LabState, labels_of, opening_state}
@@ -133,7 +133,7 @@ module _ (recorded : Recorded LabState) where
   entry_at line = entry_of names_at counter_at (kept_of line)
 
   -- the same, with replies for programs in a form
-  abbrev pub entry_in : Form → List ℕ → Entry
+  abbrev pub entry_in : RecordForm → List ℕ → Entry
   entry_in form line = in_form form (entry_at line)
 
   unfoldable pub meaning_at : List ℕ → Meaning
@@ -142,13 +142,13 @@ module _ (recorded : Recorded LabState) where
       else meaning_of (entry_at line) (kept_of line)
 
   -- the reply to a line, to a program in a form
-  unfoldable pub reply_in : Form → List ℕ → List ℕ
+  unfoldable pub reply_in : RecordForm → List ℕ → List ℕ
   reply_in form line =
       if is_some recorded.state.opened then (answer_in_source (kept_of line)).reply
       else reply_of (entry_in form line) (kept_of line)
 
   -- a line answered
-  abbrev pub answer_in : Form → List ℕ → Answer (Recorded LabState)
+  abbrev pub answer_in : RecordForm → List ℕ → Answer (Recorded LabState)
   answer_in form line = record {
     reply = reply_in form line;
     after = after_meaning script_language opening_state recorded (meaning_at line);

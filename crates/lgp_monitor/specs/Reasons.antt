@@ -3,7 +3,7 @@
 use Rattle.std.specs.Prelude.{ℕ, Bool, false, if◌then◌else◌, List, []}
 use Rattle.std.specs.Prelude.{◌++◌, codes}
 use Rattle.lgp_fields.specs.Printed.{record_in}
-use Rattle.lgp_fields.specs.declared.records.Form.{Form}
+use Rattle.lgp_fields.specs.declared.records.RecordForm.{RecordForm}
 use Rattle.lgp_script.specs.LabState.{LabState}
 use Rattle.lgp_script.specs.Refusal.{refusal_words}
 use Rattle.lgp_script.specs.ReplyText.{reply_text}
@@ -55,7 +55,7 @@ stood_text lab reply =
     ++ (if leaves_open reply then stand_text panel.status panel.mode else [])
 
 -- the reply to a run that is reported by records
-abbrev pub ran_text_in : Form → LabState → Reply → List ℕ
+abbrev pub ran_text_in : RecordForm → LabState → Reply → List ℕ
 ran_text_in form lab (replies.Ran ran) =
     let panel = lab.debugger.state.core.panel in
     record_in form (ran_record ran panel.status panel.mode)

@@ -6,8 +6,8 @@ use Rattle.lgp_table.specs.After.{after}
 use Rattle.lgp_table.specs.State.{State}
 use Rattle.lgp_history.specs.declared.origin.Origin.{Origin}
 use Rattle.lgp_trace.specs.DrumRows.{rows_begun, rows_ended}
-use Rattle.lgp_trace.specs.Gains.{moves_of}
-use Rattle.lgp_trace.specs.OptimumLines.{optimum_text, word_text}
+use Rattle.lgp_optimum.specs.Gains.{moves_of}
+use Rattle.lgp_optimum.specs.OptimumLines.{optimum_text, word_text}
 use Rattle.lgp_trace.specs.AccountLines.{heading_text}
 use Rattle.lgp_trace.specs.OriginLines.{reported_account}
 use Rattle.lgp_trace.specs.Profile.{Profiled, profile_of}

@@ -2,7 +2,7 @@
 -- Those of the script language are among them, the desk's `quit`, and those that name a file, which
 -- the monitor's program takes.
 use Rattle.std.specs.Prelude.{ℕ, Bool, true, false, List, [], ◌∷◌, codes}
-use Rattle.lgp_fields.specs.declared.records.Form.TheVariants.{Lines}
+use Rattle.lgp_fields.specs.declared.records.RecordForm.TheVariants.{Lines}
 use Rattle.lgp_monitor.specs.declared.telling.Report.TheVariants as reports
 use Rattle.lgp_monitor.specs.declared.verb.AddressCommand.TheVariants as address_commands
 use Rattle.lgp_monitor.specs.declared.verb.LoneCommand.TheVariants as lone_commands

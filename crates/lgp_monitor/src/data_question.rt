@@ -9,7 +9,7 @@ use lgp_data::{
     push_cost_data, push_labels_data, push_panel_data, push_printed_data, push_rules_data,
     push_shown, push_source_data, push_state_data, push_tape_data, push_why_data,
 };
-use lgp_fields::Form;
+use lgp_fields::RecordForm;
 use lgp_help::{push_commands, push_faults, push_operations};
 use lgp_script::{Laboratory, Span};
 use lgp_word::Address;
@@ -52,7 +52,7 @@ pub enum DataQuestion {
 #[tactic(auto, unfolding(lgp_data::specs::ShowData::shown_in))]
 fn push_show_data<A: Allocator + Copy>(
     text: &mut Vec<u8, A>,
-    form: Form,
+    form: RecordForm,
     range: &Span,
     laboratory: &Laboratory<A>,
 ) -> Result<(), AllocError>
@@ -71,7 +71,7 @@ fn push_show_data<A: Allocator + Copy>(
 #[tactic(auto, unfolding(crate::specs::DataQuestions::look_for))]
 fn push_look<A: Allocator + Copy>(
     text: &mut Vec<u8, A>,
-    form: Form,
+    form: RecordForm,
     range: &Span,
     from: u64,
     laboratory: &Laboratory<A>,
@@ -90,7 +90,7 @@ fn push_look<A: Allocator + Copy>(
 pub(crate) fn push_data<A: Allocator + Copy>(
     alloc: A,
     text: &mut Vec<u8, A>,
-    form: Form,
+    form: RecordForm,
     question: &DataQuestion,
     laboratory: &Laboratory<A>,
 ) -> Result<(), AllocError>

@@ -20,7 +20,7 @@ use crate::telling::{Report, Telling};
 use crate::verb::{AddressCommand, LoneCommand, NumberCommand, RangeCommand, Verb, verb_named};
 use lgp_assembler::{Name, OperandFault, Symbols, address_operand, operation_word};
 use lgp_command::{Asked, Command, Count, Span, asked_in, is_comment, lone_count};
-use lgp_fields::Form;
+use lgp_fields::RecordForm;
 use lgp_fraction::Fraction;
 use lgp_stream::{LineBytes, Split, has_no_word, split_word};
 use lgp_word::{Address, Word, read_digits};
@@ -199,9 +199,9 @@ fn put_typed(names: &[(Name, u16)], counter: Address, operands: &[u8]) -> Entry
 
 /// A question of a program, whose reply is lines.
 fn asked_data(question: DataQuestion) -> Entry
-    ensures { result ≡ Entry.Asked (Question.Data question Form.Lines) }
+    ensures { result ≡ Entry.Asked (Question.Data question RecordForm.Lines) }
 {
-    Entry::Asked(Question::Data(question, Form::Lines))
+    Entry::Asked(Question::Data(question, RecordForm::Lines))
 }
 
 /// What a command asks for with an address.
@@ -330,7 +330,7 @@ fn numbers_entry(names: &[(Name, u16)], counter: Address, operands: &[u8]) -> En
 /// A range of words, and how many printed codes are known.
 fn look_by(range: Option<Span>, from: Option<Count>) -> Entry
     ensures { result ≡ asked_by (λ words. asked_by (λ known.
-        Entry.Asked (Question.Data (DataQuestion.Look words known) Form.Lines)) from) range }
+        Entry.Asked (Question.Data (DataQuestion.Look words known) RecordForm.Lines)) from) range }
 {
     match (range, from) {
         (Some(range), Some(from)) => asked_data(DataQuestion::Look(range, from.get())),
@@ -522,7 +522,7 @@ fn report_as_objects(report: Report) -> Report
     ensures { result ≡ report_as_objects report }
 {
     match report {
-        Report::Records(_) => Report::Records(Form::Objects),
+        Report::Records(_) => Report::Records(RecordForm::Objects),
         Report::Columns => Report::Columns,
     }
 }
@@ -545,7 +545,7 @@ fn question_as_objects(question: Question) -> Question
     ensures { result ≡ question_as_objects question }
 {
     match question {
-        Question::Data(asked, _) => Question::Data(asked, Form::Objects),
+        Question::Data(asked, _) => Question::Data(asked, RecordForm::Objects),
         other => other,
     }
 }
@@ -562,12 +562,12 @@ fn as_objects(entry: Entry) -> Entry
 }
 
 /// What is asked for with replies for programs in a form.
-pub(crate) fn in_form(form: Form, entry: Entry) -> Entry
+pub(crate) fn in_form(form: RecordForm, entry: Entry) -> Entry
     ensures { result ≡ in_form form entry }
 {
     match form {
-        Form::Lines => entry,
-        Form::Objects => as_objects(entry),
+        RecordForm::Lines => entry,
+        RecordForm::Objects => as_objects(entry),
     }
 }
 

@@ -31,7 +31,7 @@ use crate::reason::{push_refused, push_run_end};
 use crate::telling::{Telling, run_told};
 use crate::verb::Verb;
 use lgp_command::{Command, Count, is_comment, text_after_word};
-use lgp_fields::Form;
+use lgp_fields::RecordForm;
 use lgp_script::{Laboratory, Refusal, Reply};
 use lgp_stream::{Answers, LineBytes, Recorder, split_word};
 use std::alloc::{AllocError, Allocator};
@@ -217,7 +217,11 @@ fn begin_anew<A: Allocator + Copy>(
 }
 
 /// What a line asks for in the state of a laboratory, with replies for programs in a form.
-fn entry_at<A: Allocator + Copy>(form: Form, laboratory: &Laboratory<A>, line: &LineBytes) -> Entry
+fn entry_at<A: Allocator + Copy>(
+    form: RecordForm,
+    laboratory: &Laboratory<A>,
+    line: &LineBytes,
+) -> Entry
     ensures { result ≡ in_form form (entry_of (labels_of laboratory.now.source)
         laboratory.now.debugger.state.core.panel.counter line.now) }
 {
@@ -260,7 +264,7 @@ fn perform<A: Allocator + Copy, P: Progress>(
 /// Answers a line of which this was kept where no source is open.
 fn answer_outside<A: Allocator + Copy, P: Progress>(
     alloc: A,
-    form: Form,
+    form: RecordForm,
     recorder: &mut Recorder<Laboratory<A>, A>,
     line: &LineBytes,
     progress: &P,
@@ -279,7 +283,7 @@ fn answer_outside<A: Allocator + Copy, P: Progress>(
 #[tactic(auto, unfolding(crate::specs::Monitor::meaning_at, crate::specs::Monitor::reply_in), using(crate::proofs::FormLemmas::same_meaning))]
 fn answer_line<A: Allocator + Copy, P: Progress>(
     alloc: A,
-    form: Form,
+    form: RecordForm,
     recorder: &mut Recorder<Laboratory<A>, A>,
     line: &LineBytes,
     progress: &P,
@@ -346,7 +350,7 @@ impl<A: Allocator + Copy, P: Progress> Monitor<Laboratory<A>, A, P> {
     /// Answers a line as `answer` does, and a program in a form.
     pub fn answer_in(
         &mut self,
-        form: Form,
+        form: RecordForm,
         line: &LineBytes,
         reply: &mut Vec<u8, A>,
     ) -> Result<(), AllocError>
@@ -376,7 +380,7 @@ impl<A: Allocator + Copy, P: Progress> Answers<A> for Monitor<Laboratory<A>, A, 
     ghost language = { monitor_language };
 
     fn answer(&mut self, line: &LineBytes, reply: &mut Vec<u8, A>) -> Result<(), AllocError> {
-        self.answer_in(Form::Lines, line, reply)
+        self.answer_in(RecordForm::Lines, line, reply)
     }
 
     fn close(&mut self, reply: &mut Vec<u8, A>) -> Result<(), AllocError> {

@@ -20,6 +20,9 @@ use lgp_stream::Recorder;
 use lgp_table::Action;
 use std::alloc::{AllocError, Allocator};
 
+/// For how many bytes there is room where a kept line begins; most are shorter.
+const LINE_ROOM: usize = 32;
+
 /// The command that presses a button or sets a switch.
 pub fn pressing(action: Action) -> Command
     requires { IsTrue (is_button action) }
@@ -39,7 +42,7 @@ pub fn keep_command<A: Allocator + Copy>(
         ≡ with_line recorder.old (command_text command.now text.now)) }
     ensures sayable { OnOk result (IsSayable command.now) }
 {
-    let mut line = Vec::new(alloc);
+    let mut line = Vec::with_capacity(alloc, LINE_ROOM)?;
     push_command(&mut line, command, text)?;
     recorder.keep_line(&line)
 }

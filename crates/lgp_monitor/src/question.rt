@@ -17,7 +17,7 @@ use crate::scaled::{Point, push_scaled};
 use lgp_assembler::Name;
 use lgp_debugger::Debugger;
 use lgp_exchange::push_paper;
-use lgp_fields::Form;
+use lgp_fields::RecordForm;
 use lgp_flexo::Code;
 use lgp_fraction::Fraction;
 use lgp_history::{Records, Rule};
@@ -47,7 +47,7 @@ pub enum Question {
     /// Each command, whether it only asks, and what its operands are.
     Commands,
     /// What a program reads, in a form.
-    Data(DataQuestion, Form),
+    Data(DataQuestion, RecordForm),
 }
 
 /// Appends a word by its digits, as a fraction and as a number whose point is after a place.

@@ -5,7 +5,7 @@ ghost use Rattle.lgp_monitor.specs.Reasons.{explained_text, leaves_open, ran_tex
 
 use crate::run_end::{ends_open, push_ran, push_stand};
 use crate::telling::Report;
-use lgp_fields::Form;
+use lgp_fields::RecordForm;
 use lgp_script::{Laboratory, Refusal, Reply, push_refusal_words};
 use lgp_text::{Piece, push_pieces};
 use std::alloc::{AllocError, Allocator};
@@ -98,7 +98,7 @@ fn push_stood<A: Allocator + Copy>(
 /// Appends the reply to a run that is reported by records, as a record; a refusal with its reason.
 fn push_ran_record<A: Allocator + Copy>(
     text: &mut Vec<u8, A>,
-    form: Form,
+    form: RecordForm,
     laboratory: &Laboratory<A>,
     reply: &Reply,
 ) -> Result<(), AllocError>

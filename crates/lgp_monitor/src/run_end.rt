@@ -11,7 +11,7 @@ ghost use Rattle.lgp_monitor.specs.RunEnds.{ends_open, ran_record, ran_words, re
 
 use lgp_data::{state_sentence, way_sentence};
 use lgp_debugger::{Ran, Reason};
-use lgp_fields::{Field, Form, Value, push_record};
+use lgp_fields::{Field, RecordForm, Value, push_record};
 use lgp_table::{Mode, Status};
 use lgp_text::{Piece, push_pieces};
 use std::alloc::{AllocError, Allocator};
@@ -100,7 +100,7 @@ fn stand_value<'a>(ran: &Ran, pieces: &'a [Piece<'a>]) -> Value<'a>
 #[tactic(auto, unfolding(crate::specs::RunEnds::ran_record))]
 fn push_words<'a, A: Allocator>(
     text: &mut Vec<u8, A>,
-    form: Form,
+    form: RecordForm,
     ran: &Ran,
     words: &'a [Piece<'a>],
     stand: &'a [Piece<'a>],
@@ -120,7 +120,7 @@ fn push_words<'a, A: Allocator>(
 /// Appends what a run came to as a record in a form.
 pub fn push_ran<A: Allocator>(
     text: &mut Vec<u8, A>,
-    form: Form,
+    form: RecordForm,
     ran: &Ran,
     status: Status,
     mode: Mode,

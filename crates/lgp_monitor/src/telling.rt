@@ -3,7 +3,7 @@
 ghost use Rattle.std.specs.Prelude.{◌≡◌, ◌++◌, ℕ, IfOk, OnOk, Option};
 ghost use Rattle.lgp_table.specs.State.{State};
 ghost use Rattle.lgp_history.specs.declared.origin.Origin.{Origin};
-ghost use Rattle.lgp_trace.specs.OptimumKept.{IsOptimumOf};
+ghost use Rattle.lgp_optimum.specs.OptimumKept.{IsOptimumOf};
 ghost use Rattle.lgp_debugger.specs.Debugging.{order_origins, performed};
 ghost use Rattle.lgp_debugger.specs.Run.{UnlessMemory, orders_of, run_of};
 ghost use Rattle.lgp_script.specs.HistoryCommands.{orders_run, replied_to_run};
@@ -16,12 +16,13 @@ use crate::labels::NamedAddresses;
 use lgp_assembler::Name;
 use lgp_data::{AccountRecords, push_optimum_data, push_profile_data, push_word_optimum_data};
 use lgp_debugger::{Debugger, Ran, RunFault, RunRefusal};
-use lgp_fields::Form;
+use lgp_fields::RecordForm;
 use lgp_history::Records;
+use lgp_optimum::{Optimum, optimum_run, push_optimum, push_word_optimum};
 use lgp_script::{Laboratory, Reply, Teller};
 use lgp_trace::{
-    InColumns, Optimum, Profile, draw_run, optimum_run, profile_run, push_heading, push_optimum,
-    push_profile, push_rows_begun, push_rows_ended, push_word_optimum, trace_run,
+    InColumns, Profile, draw_run, profile_run, push_heading, push_profile, push_rows_begun,
+    push_rows_ended, trace_run,
 };
 use lgp_word::Address;
 use std::alloc::{AllocError, Allocator};
@@ -32,7 +33,7 @@ pub enum Report {
     /// In columns, for people.
     Columns,
     /// As records, for programs.
-    Records(Form),
+    Records(RecordForm),
 }
 
 /// How a run is reported.

@@ -1,11 +1,11 @@
 //! The commands of the monitor, each with what comes after its name.
 
-ghost use Rattle.std.specs.Prelude.{◌≡◌};
+ghost use Rattle.std.specs.Prelude.{◌≡◌, drop};
 ghost use Rattle.lgp_text.specs.NamedValues.{named, pairs_of};
 ghost use Rattle.lgp_monitor.specs.Verbs.{only_asks, operands_form, operands_kind, takes_address, verb_names};
 
 use crate::telling::Report;
-use lgp_fields::Form;
+use lgp_fields::RecordForm;
 use lgp_text::{Named, value_named};
 
 /// A command with nothing after its name.
@@ -174,15 +174,15 @@ const VERBS: [Named<Verb>; 69] = [
     (b"cost", Verb::Address(AddressCommand::Cost)),
     (
         b"trace-data",
-        Verb::Number(NumberCommand::Trace(Report::Records(Form::Lines))),
+        Verb::Number(NumberCommand::Trace(Report::Records(RecordForm::Lines))),
     ),
     (
         b"profile-data",
-        Verb::Number(NumberCommand::Profile(Report::Records(Form::Lines))),
+        Verb::Number(NumberCommand::Profile(Report::Records(RecordForm::Lines))),
     ),
     (
         b"optimum-data",
-        Verb::NumberAddress(Report::Records(Form::Lines)),
+        Verb::NumberAddress(Report::Records(RecordForm::Lines)),
     ),
     (b"look", Verb::CountedRange),
     (b"json", Verb::Line),
@@ -199,10 +199,23 @@ pub fn named_verbs() -> &'static [Named<Verb>]
     &VERBS
 }
 
-/// The command of a first word.
+/// Where the commands for programs begin: no name in front of it ends in `-data`.
+const FIRST_FOR_PROGRAMS: usize = 47;
+
+/// The commands from that one on.
+fn verbs_for_programs() -> &'static [Named<Verb>]
+    ensures { pairs_of result.now ≡ drop FIRST_FOR_PROGRAMS verb_names }
+{
+    &VERBS[FIRST_FOR_PROGRAMS..]
+}
+
+/// The command of a first word. One that ends in `-data` is looked for among the commands for programs alone.
 pub fn verb_named(name: &[u8]) -> Option<Verb>
     ensures { result ≡ named verb_names name.now }
 {
+    if name.ends_with(b"-data") {
+        return value_named(verbs_for_programs(), name);
+    }
     value_named(named_verbs(), name)
 }
 

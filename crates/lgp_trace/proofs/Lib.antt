@@ -7,11 +7,4 @@ pub mod Dearest
 pub mod DrumLemmas
 pub mod PlaceLines
 pub mod Noting
-pub mod MovedClocks
-pub mod Shares
-pub mod TurnsLemmas
-pub mod UsesLemmas
-pub mod OptimumLemmas
-pub mod GainLemmas
-pub mod AllMoved
 pub mod Telling

@@ -8,13 +8,6 @@ pub mod PhrasesInside
 pub mod DrumRows
 pub mod ProfileLines
 pub mod Runs
-pub mod Optimum
-pub mod OptimumKept
-pub mod TurnsInside
-pub mod UsesInside
-pub mod OptimumInside
-pub mod Gains
-pub mod OptimumLines
 pub use Rattle.lgp_table.specs.State
 pub use Rattle.lgp_table.specs.Activity
 pub use Rattle.lgp_table.specs.Interleaving

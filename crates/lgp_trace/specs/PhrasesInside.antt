@@ -1,12 +1,10 @@
 -- Serves proofs only: the pieces of the lines that tell of activities. A label says what comes after
 -- an address.
-use Rattle.std.specs.Prelude.{ℕ, ◌++◌, List, [], ◌∷◌, codes, decimal, map, replicate}
+use Rattle.std.specs.Prelude.{ℕ, ◌++◌, List, [], ◌∷◌, decimal, map}
 use Rattle.std.specs.List.{concat}
-use Rattle.lgp_word.specs.Digits.{digits_of}
-use Rattle.lgp_trace.specs.AccountLines.{number_text, performed_text, place_text, word_text}
-use Rattle.lgp_trace.specs.Columns.{right_aligned, spaced_number}
+use Rattle.lgp_trace.specs.AccountLines.{performed_text, place_text, word_text}
 use Rattle.lgp_trace.specs.OriginLines.{lost_text}
-use Rattle.lgp_trace.specs.ProfileLines.{part_line, share_text, turns_text}
+use Rattle.lgp_trace.specs.ProfileLines.{turns_text}
 use Rattle.lgp_trace.specs.declared.phrases.Phrase.{Phrase}
 use Rattle.lgp_trace.specs.declared.phrases.Phrase.TheVariants as phrases
 
@@ -14,19 +12,11 @@ unfoldable pub phrase_text : (ℕ → List ℕ) → Phrase → List ℕ
 phrase_text label (phrases.Text text) = text.now
 phrase_text label (phrases.Byte byte) = byte ∷ []
 phrase_text label (phrases.Number number) = decimal number
-phrase_text label (phrases.Digits bits) = digits_of bits
 phrase_text label (phrases.Place address) = place_text label address
 phrase_text label (phrases.Order word) = performed_text label word
-phrase_text label (phrases.Value word) = number_text word
 phrase_text label (phrases.Word word) = word_text label word
 phrase_text label (phrases.Lost word) = lost_text label word
-phrase_text label (phrases.Right width number) = right_aligned width number
-phrase_text label (phrases.Spaced width number) = spaced_number width number
-phrase_text label (phrases.Wide width number) = spaced_number width number.now
-phrase_text label (phrases.Copies byte count) = replicate count byte
 phrase_text label (phrases.Turns times) = turns_text times
-phrase_text label (phrases.Share part whole) = share_text part whole
-phrase_text label (phrases.Part part times whole) = part_line part times whole
 
 -- one after another
 abbrev pub phrases_text : (ℕ → List ℕ) → List Phrase → List ℕ

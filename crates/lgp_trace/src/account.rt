@@ -129,7 +129,7 @@ impl Begun {
 
     /// The same before the order acts, with no word time in which it does and nothing that it prints.
     #[inline(always)]
-    pub(crate) fn before_acting<A: Allocator>(machine: &Machine<A>) -> Option<Begun>
+    pub fn before_acting<A: Allocator>(machine: &Machine<A>) -> Option<Begun>
         ensures { result ≡ seen_at_boundary machine.now (record (begun_of machine.now.state) {
           phases = record (phases_of machine.now.state) { act = 0 };
           prints = None;
@@ -150,7 +150,7 @@ impl Begun {
 
     /// The same of an order that takes a given number of word times and prints this.
     #[inline(always)]
-    pub(crate) fn until(self, times: u64, prints: Option<Code>) -> Begun
+    pub fn until(self, times: u64, prints: Option<Code>) -> Begun
         requires { self.phases.find + self.phases.take + self.phases.seek ≤ times }
         ensures { result ≡ record self {
           phases = record self.phases {

@@ -1,22 +1,23 @@
 //! The lines of an account.
 
-ghost use Rattle.std.specs.Prelude.{◌≡◌, ◌++◌, ◌^◌, ◌<◌, ◌&&◌, ℕ, List, OnOk, []};
-ghost use Rattle.lgp_word.specs.Order.{op_at, sign_of, takes_minus};
+ghost use Rattle.std.specs.Prelude.{◌≡◌, ◌++◌, ◌^◌, ◌<◌, ℕ, List, OnOk, []};
 ghost use Rattle.std.specs.Option.{option_map_or};
 ghost use Rattle.lgp_text.specs.PanelWords.{status_text};
-ghost use Rattle.lgp_trace.specs.AccountLines.{account_details, account_line, account_text, accumulator_text, heading_text, minus_text, number_text, order_after, order_columns, passed_lines, performed_text, phases_text, place_text, printed_line, reference_text, register_line, result_columns, stored_line, stored_lines, word_text};
+ghost use Rattle.lgp_trace.specs.AccountLines.{account_details, account_line, account_text, accumulator_text, heading_text, number_text, order_after, order_columns, passed_lines, performed_text, phases_text, place_text, printed_line, reference_text, register_line, result_columns, stored_line, stored_lines, word_text};
+ghost use Rattle.lgp_trace.specs.Columns.{left_aligned};
 ghost use Rattle.lgp_trace.specs.Phases.{all_phases};
 ghost use Rattle.lgp_trace.specs.PhrasesInside.{phrase_text};
 ghost use Rattle.lgp_flexo.specs.Code.{sign_at};
 
 use crate::account::{Account, Operand};
+use crate::columns::{push_blanks_after, push_decimal, push_right, push_spaced};
 use crate::labels::{Labels, NoLabels};
 use crate::phases::Phases;
 use crate::phrases::{Phrase, push_column, push_phrases};
 use lgp_flexo::{Code, sign_of};
 use lgp_table::{Status, stores};
 use lgp_text::{Piece, push_pieces, status_text};
-use lgp_word::{Address, Op, Word, decode, parts};
+use lgp_word::{Address, Op, Word, decode, parts, write_bits, write_digits};
 use std::alloc::{AllocError, Allocator};
 
 /// Appends the line above accounts.
@@ -39,8 +40,24 @@ pub fn push_place<L: Labels, A: Allocator>(
     ensures { OnOk result (text.new.items
         ≡ text.old.items ++ place_text (L.label labels.now) place) }
 {
-    push_pieces(text, &[Piece::Place(place)])?;
+    text.extend_from_slice(&place.print())?;
     labels.push_label(text, place)
+}
+
+/// Appends an address with its label at the left of a column.
+#[tactic(auto, using(crate::proofs::TextLemmas::columns))]
+pub fn push_place_column<L: Labels, A: Allocator>(
+    text: &mut Vec<u8, A>,
+    width: u64,
+    place: Address,
+    labels: &L,
+) -> Result<(), AllocError>
+    ensures { OnOk result (text.new.items ≡ text.old.items
+        ++ left_aligned width (place_text (L.label labels.now) place)) }
+{
+    let begins = text.len();
+    push_place(text, place, labels)?;
+    push_blanks_after(text, width, begins)
 }
 
 /// Appends a label where an order refers to a word.
@@ -59,18 +76,6 @@ fn push_reference<L: Labels, A: Allocator>(
     labels.push_label(text, address)
 }
 
-/// The minus sign of an order, if it has one.
-fn minus_text(word: Word) -> &'static [u8]
-    ensures { result.now ≡ minus_text (takes_minus (op_at word) && sign_of word) }
-{
-    let (minus, op, _) = parts(word);
-    if minus && matches!(op, Op::T) {
-        b"-"
-    } else {
-        b""
-    }
-}
-
 /// Appends a word as the order that is performed.
 #[tactic(auto, unfolding(crate::specs::AccountLines::performed_text))]
 pub(crate) fn push_performed<L: Labels, A: Allocator>(
@@ -81,17 +86,12 @@ pub(crate) fn push_performed<L: Labels, A: Allocator>(
     ensures { OnOk result (text.new.items
         ≡ text.old.items ++ performed_text (L.label labels.now) word) }
 {
-    let (_, op, address) = parts(word);
-    text.extend_from_slice(minus_text(word))?;
-    let letter = [op.letter()];
-    push_pieces(
-        text,
-        &[
-            Piece::Text(&letter),
-            Piece::Text(b" "),
-            Piece::Place(address),
-        ],
-    )?;
+    let (minus, op, address) = parts(word);
+    if minus && matches!(op, Op::T) {
+        text.push(b'-')?;
+    }
+    let [a, b, c, d] = address.print();
+    text.extend_from_slice(&[op.letter(), b' ', a, b, c, d])?;
     push_reference(text, op, address, labels)
 }
 
@@ -101,10 +101,10 @@ pub fn push_number<A: Allocator>(text: &mut Vec<u8, A>, word: Word) -> Result<()
 {
     let bits = u64::from(word.get());
     if bits >= 1 << 31 {
-        let number = ((1 << 32) - bits) / 2;
-        push_pieces(text, &[Piece::Text(b"-"), Piece::Number(number)])
+        text.push(b'-')?;
+        push_decimal(text, ((1 << 32) - bits) / 2)
     } else {
-        push_pieces(text, &[Piece::Number(bits / 2)])
+        push_decimal(text, bits / 2)
     }
 }
 
@@ -134,9 +134,9 @@ pub(crate) fn push_word<L: Labels, A: Allocator>(
     ensures { OnOk result (text.new.items
         ≡ text.old.items ++ word_text (L.label labels.now) word) }
 {
-    push_pieces(text, &[Piece::Digits(word.get())])?;
+    text.extend_from_slice(&write_digits(word))?;
     push_order_after(text, word, labels)?;
-    push_pieces(text, &[Piece::Text(b" = ")])?;
+    text.extend_from_slice(b" = ")?;
     push_number(text, word)
 }
 
@@ -165,23 +165,17 @@ fn order_shown(order: Option<Word>, status: Status) -> Phrase<'static>
 }
 
 /// Appends the word times of the phases and their sum.
-#[tactic(auto, unfolding(crate::specs::AccountLines::phases_text, crate::specs::PhrasesInside::phrase_text))]
+#[tactic(auto, unfolding(crate::specs::AccountLines::phases_text))]
 fn push_phases<A: Allocator>(text: &mut Vec<u8, A>, phases: Phases) -> Result<(), AllocError>
     requires { all_phases phases < 2 ^ 64 }
     ensures { OnOk result (text.new.items ≡ text.old.items ++ phases_text phases) }
 {
     let sum = phases.find + phases.take + phases.seek + phases.act;
-    push_phrases(
-        text,
-        &[
-            Phrase::Spaced(5, phases.find),
-            Phrase::Spaced(4, phases.take),
-            Phrase::Spaced(4, phases.seek),
-            Phrase::Spaced(4, phases.act),
-            Phrase::Spaced(5, sum),
-        ],
-        &NoLabels,
-    )
+    push_spaced(text, 5, phases.find)?;
+    push_spaced(text, 4, phases.take)?;
+    push_spaced(text, 4, phases.seek)?;
+    push_spaced(text, 4, phases.act)?;
+    push_spaced(text, 5, sum)
 }
 
 /// Appends the accumulator, or before and after it has changed.
@@ -193,17 +187,12 @@ fn push_accumulator<A: Allocator>(
 ) -> Result<(), AllocError>
     ensures { OnOk result (text.new.items ≡ text.old.items ++ accumulator_text before after) }
 {
+    text.extend_from_slice(&write_bits(before))?;
     if before == after {
-        return push_pieces(text, &[Piece::Digits(before)]);
+        return Ok(());
     }
-    push_pieces(
-        text,
-        &[
-            Piece::Digits(before),
-            Piece::Text(b" -> "),
-            Piece::Digits(after),
-        ],
-    )
+    text.extend_from_slice(b" -> ")?;
+    text.extend_from_slice(&write_bits(after))
 }
 
 /// Appends where the order is, and the order.
@@ -237,11 +226,11 @@ fn push_result_columns<A: Allocator>(
     push_phases(text, account.phases)?;
     text.extend_from_slice(b"  ")?;
     push_accumulator(text, before, after)?;
-    text.extend_from_slice(b"\n")
+    Ok(text.push(b'\n')?)
 }
 
 /// Appends the line with columns.
-#[tactic(auto, unfolding(crate::specs::AccountLines::account_line, crate::specs::PhrasesInside::phrase_text))]
+#[tactic(auto, unfolding(crate::specs::AccountLines::account_line))]
 pub fn push_account_line<L: Labels, A: Allocator>(
     text: &mut Vec<u8, A>,
     account: &Account,
@@ -251,11 +240,8 @@ pub fn push_account_line<L: Labels, A: Allocator>(
     ensures { OnOk result (text.new.items
         ≡ text.old.items ++ account_line (L.label labels.now) account.now) }
 {
-    push_phrases(
-        text,
-        &[Phrase::Right(7, account.before.clock), Phrase::Text(b"  ")],
-        &NoLabels,
-    )?;
+    push_right(text, 7, account.before.clock)?;
+    text.extend_from_slice(b"  ")?;
     push_order_columns(text, account, labels)?;
     push_result_columns(text, account)
 }

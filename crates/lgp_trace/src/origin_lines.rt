@@ -14,7 +14,7 @@ use lgp_debugger::Debugger;
 use lgp_history::{Changer, Origin, Origins, PastOrder};
 use lgp_table::Status;
 use lgp_text::{Piece, push_pieces};
-use lgp_word::{Address, Word, decode};
+use lgp_word::{Address, Word, decode, write_digits};
 use std::alloc::{AllocError, Allocator};
 
 /// Where the order came from that a debugger performs next; `None` where it is as it was when the kept steps begin, and where it
@@ -112,7 +112,8 @@ pub(crate) fn push_lost<L: Labels, A: Allocator>(
     if decode(word).is_some() {
         return push_performed(text, word, labels);
     }
-    push_pieces(text, &[Piece::Digits(word.get()), Piece::Text(b" = ")])?;
+    text.extend_from_slice(&write_digits(word))?;
+    text.extend_from_slice(b" = ")?;
     push_number(text, word)
 }
 

@@ -4,12 +4,11 @@ ghost use Rattle.std.specs.Prelude.{◌≡◌, ◌++◌, OnOk, codes};
 ghost use Rattle.lgp_trace.specs.Columns.{left_aligned};
 ghost use Rattle.lgp_trace.specs.PhrasesInside.{phrase_text, phrases_text};
 
-use crate::account_lines::{push_number, push_performed, push_place, push_word};
-use crate::columns::{push_blanks_after, push_copies, push_right, push_spaced, push_wide};
+use crate::account_lines::{push_performed, push_place, push_word};
+use crate::columns::{push_blanks_after, push_decimal};
 use crate::labels::Labels;
 use crate::origin_lines::push_lost;
-use crate::profile_lines::{Part, push_part, push_share, push_turns};
-use lgp_text::{Piece, push_pieces};
+use crate::profile_lines::push_turns;
 use lgp_word::{Address, Word};
 use std::alloc::{AllocError, Allocator};
 
@@ -22,32 +21,16 @@ pub(crate) enum Phrase<'a> {
     Byte(u8),
     /// A number in decimal.
     Number(u64),
-    /// 32 bits as eight digits.
-    Digits(u32),
     /// An address with its label.
     Place(Address),
     /// A word as the order that is performed.
     Order(Word),
-    /// A word as a whole number.
-    Value(Word),
     /// A word by its digits, as the order that it is, if it is one, and as a number.
     Word(Word),
     /// A lost word.
     Lost(Word),
-    /// A number at the right of a column of this width.
-    Right(u64, u64),
-    /// The same after a blank.
-    Spaced(u64, u64),
-    /// The same of a number of up to 128 bits.
-    Wide(u64, &'a u128),
-    /// A byte a given number of times.
-    Copies(u8, u64),
     /// Word times in turns of the drum.
     Turns(u64),
-    /// A part of all word times, and what it is in per cent.
-    Share(u64, u64),
-    /// A part with its name.
-    Part(Part, u64, u64),
 }
 
 /// Appends a piece.
@@ -62,21 +45,13 @@ fn push_phrase<L: Labels, A: Allocator>(
 {
     match *phrase {
         Phrase::Text(bytes) => text.extend_from_slice(bytes),
-        Phrase::Byte(byte) => text.extend_from_slice(&[byte]),
-        Phrase::Number(number) => push_pieces(text, &[Piece::Number(number)]),
-        Phrase::Digits(bits) => push_pieces(text, &[Piece::Digits(bits)]),
+        Phrase::Byte(byte) => Ok(text.push(byte)?),
+        Phrase::Number(number) => push_decimal(text, number),
         Phrase::Place(address) => push_place(text, address, labels),
         Phrase::Order(word) => push_performed(text, word, labels),
-        Phrase::Value(word) => push_number(text, word),
         Phrase::Word(word) => push_word(text, word, labels),
         Phrase::Lost(word) => push_lost(text, word, labels),
-        Phrase::Right(width, number) => push_right(text, width, number),
-        Phrase::Spaced(width, number) => push_spaced(text, width, number),
-        Phrase::Wide(width, number) => push_wide(text, width, *number),
-        Phrase::Copies(byte, count) => push_copies(text, byte, count),
         Phrase::Turns(times) => push_turns(text, times),
-        Phrase::Share(part, whole) => push_share(text, u128::from(part), whole),
-        Phrase::Part(part, times, whole) => push_part(text, part, times, whole),
     }
 }
 

@@ -6,7 +6,7 @@ use crate::{End, end_of, expect_eq, in_turn};
 use lgp_assembler::Name;
 use lgp_data::{AccountRecords, push_profile_data};
 use lgp_debugger::{Debugger, Ran, RunFault, RunRefusal};
-use lgp_fields::Form;
+use lgp_fields::RecordForm;
 use lgp_history::{History, Origins};
 use lgp_limited::Limited;
 use lgp_table::Action;
@@ -53,7 +53,7 @@ enum Way {
 /// Orders as objects of JSON, with these labels.
 fn objects_with(names: &[(Name, u16)]) -> AccountRecords<'_> {
     AccountRecords {
-        form: Form::Objects,
+        form: RecordForm::Objects,
         names,
     }
 }
@@ -130,7 +130,7 @@ pub(super) fn unless_other(end: End, text: &[u8], ample: &[u8]) -> End {
 /// Appends a heading of accounts and a profile, in columns or as records in a form.
 fn push_told<A: Allocator, C: Allocator>(
     text: &mut Vec<u8, C>,
-    form: Option<Form>,
+    form: Option<RecordForm>,
     profile: &Profile<A>,
 ) -> End {
     if push_heading(text).is_err() {
@@ -149,7 +149,7 @@ fn push_told<A: Allocator, C: Allocator>(
 /// Whether growths of that were refused in turn.
 fn profile_in_turn<A: Allocator>(
     (limited, global): (&Limited<Global>, Global),
-    form: Option<Form>,
+    form: Option<RecordForm>,
     profile: &Profile<A>,
 ) -> bool {
     let mut ample = Vec::new(global);
@@ -202,7 +202,7 @@ fn each_growth_of_a_profile_refused(rt: HostRuntime) {
     let are_refused = match profile_of_a_sum(rt.alloc()) {
         Some(profile) => [
             profile_in_turn((&limited, rt.alloc()), None, &profile),
-            profile_in_turn((&limited, rt.alloc()), Some(Form::Lines), &profile),
+            profile_in_turn((&limited, rt.alloc()), Some(RecordForm::Lines), &profile),
         ],
         None => [false; 2],
     };

@@ -7,8 +7,8 @@ use crate::{End, end_of, expect_eq, in_turn};
 use lgp_debugger::Debugger;
 use lgp_history::History;
 use lgp_limited::Limited;
-use lgp_trace::optimum_laws::{all_save_the_sum, own_sector, savings_add_up};
-use lgp_trace::{Freedom, Optimum, optimum_run};
+use lgp_optimum::laws::{all_save_the_sum, own_sector, savings_add_up};
+use lgp_optimum::{Freedom, Optimum, optimum_run};
 use std::alloc::{Allocator, Global};
 
 /// What is noted of the program that sums a table; none where that is refused.

@@ -4,7 +4,8 @@ use super::address;
 use super::optimum::optimum_of_a_sum;
 use crate::{end_of, expect_eq, in_turn};
 use lgp_limited::Limited;
-use lgp_trace::{Freedom, Gain, NoLabels, Optimum, push_optimum, push_word_optimum};
+use lgp_optimum::{Freedom, Gain, Optimum, push_optimum, push_word_optimum};
+use lgp_trace::NoLabels;
 use std::alloc::{Allocator, Global};
 
 /// A word, its best sector, and what it saves there.

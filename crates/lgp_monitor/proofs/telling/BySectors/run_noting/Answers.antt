@@ -4,7 +4,7 @@ use Rattle.lgp_debugger.specs.Debugging.{order_origins}
 use Rattle.lgp_debugger.specs.Run.{UnlessMemory, orders_of}
 use Rattle.lgp_debugger.specs.declared.fault.Ran.{Ran}
 use Rattle.lgp_debugger.specs.declared.fault.RunFault.{RunFault}
-use Rattle.lgp_trace.specs.OptimumKept.{IsOptimumOf}
+use Rattle.lgp_optimum.specs.OptimumKept.{IsOptimumOf}
 use Rattle.lgp_monitor.specs.Telling.{reported_text}
 use Rattle.lgp_monitor.specs.TellingInside.{sectors_told}
 use Rattle.lgp_monitor.proofs.telling.BySectors.run_noting.Goals as goal

@@ -1,6 +1,0 @@
-use Rattle.std.proofs.Common.{◌≡◌}
-use Rattle.lgp_trace.specs.OptimumLines.{greatest}
-use Rattle.lgp_trace.proofs.optimum_lines.greatest.Given as goal
-
-abbrev pub invariant-loop-sector : goal.invariant-loop-sector
-invariant-loop-sector l = l.most ≡ greatest l.times l.sector
