@@ -1,7 +1,6 @@
 -- What the watchers of runs keep.
 use Rattle.std.proofs.Common.{◌≡◌, ◌∙◌, ℕ, zero, suc, ◌++◌, List, Option, append_assoc, sym, ap}
 use Rattle.std.proofs.lemmas.List.{append-nil}
-use Rattle.lgp_table.specs.After.{after}
 use Rattle.lgp_table.specs.State.{State}
 use Rattle.lgp_debugger.specs.Debugging.{Debugging, order_origin, order_origins, performed}
 use Rattle.lgp_debugger.specs.Watching.{AreSeen}

@@ -1,6 +1,6 @@
 -- Serves proofs only: the pieces of the lines that tell of activities. A label says what comes after
 -- an address.
-use Rattle.std.specs.Prelude.{ℕ, ◌++◌, List, [], ◌∷◌, decimal, map}
+use Rattle.std.specs.Prelude.{ℕ, List, [], ◌∷◌, decimal, map}
 use Rattle.std.specs.List.{concat}
 use Rattle.lgp_trace.specs.AccountLines.{performed_text, place_text, word_text}
 use Rattle.lgp_trace.specs.OriginLines.{lost_text}

@@ -1,9 +1,10 @@
 //! The lines of an account.
 
-ghost use Rattle.std.specs.Prelude.{◌≡◌, ◌++◌, ◌^◌, ◌<◌, ℕ, List, OnOk, []};
+ghost use Rattle.std.specs.Prelude.{◌≡◌, ◌++◌, ◌^◌, ◌<◌, ◌&&◌, ℕ, List, OnOk, []};
+ghost use Rattle.lgp_word.specs.Order.{takes_minus};
 ghost use Rattle.std.specs.Option.{option_map_or};
 ghost use Rattle.lgp_text.specs.PanelWords.{status_text};
-ghost use Rattle.lgp_trace.specs.AccountLines.{account_details, account_line, account_text, accumulator_text, heading_text, number_text, order_after, order_columns, passed_lines, performed_text, phases_text, place_text, printed_line, reference_text, register_line, result_columns, stored_line, stored_lines, word_text};
+ghost use Rattle.lgp_trace.specs.AccountLines.{account_details, account_line, account_text, accumulator_text, heading_text, minus_text, number_text, order_after, order_columns, passed_lines, performed_text, phases_text, place_text, printed_line, reference_text, register_line, result_columns, stored_line, stored_lines, word_text};
 ghost use Rattle.lgp_trace.specs.Columns.{left_aligned};
 ghost use Rattle.lgp_trace.specs.Phases.{all_phases};
 ghost use Rattle.lgp_trace.specs.PhrasesInside.{phrase_text};
@@ -76,6 +77,17 @@ fn push_reference<L: Labels, A: Allocator>(
     labels.push_label(text, address)
 }
 
+/// The minus of an order that is performed, if it has one.
+fn minus_text(op: Op, minus: bool) -> &'static [u8]
+    ensures { result.now ≡ minus_text (takes_minus op && minus) }
+{
+    if minus && matches!(op, Op::T) {
+        b"-"
+    } else {
+        b""
+    }
+}
+
 /// Appends a word as the order that is performed.
 #[tactic(auto, unfolding(crate::specs::AccountLines::performed_text))]
 pub(crate) fn push_performed<L: Labels, A: Allocator>(
@@ -87,10 +99,8 @@ pub(crate) fn push_performed<L: Labels, A: Allocator>(
         ≡ text.old.items ++ performed_text (L.label labels.now) word) }
 {
     let (minus, op, address) = parts(word);
-    if minus && matches!(op, Op::T) {
-        text.push(b'-')?;
-    }
     let [a, b, c, d] = address.print();
+    text.extend_from_slice(minus_text(op, minus))?;
     text.extend_from_slice(&[op.letter(), b' ', a, b, c, d])?;
     push_reference(text, op, address, labels)
 }

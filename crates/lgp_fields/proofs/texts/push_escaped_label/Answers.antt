@@ -1,4 +1,4 @@
-use Rattle.std.proofs.Common.{◌≡◌, ◌==◌, ◌∙◌, true, List, [], ◌∷◌, ℕ, arith, length, refl, rules, sym}
+use Rattle.std.proofs.Common.{◌≡◌, ◌==◌, ◌∙◌, true, List, [], ◌∷◌, ℕ, arith, length, refl, sym}
 use Rattle.std.proofs.lemmas.Grind.{common_steps}
 use Rattle.std.proofs.lemmas.List.{append-nil}
 use Rattle.lgp_fields.specs.Escaped.{escaped, escaped_byte}
