@@ -12,8 +12,11 @@ export const numberOf = (address) => SECTORS * Number(address.slice(0, 2)) + Num
 /** The address of a number. */
 export const addressOf = (number) => `${String(Math.floor(number / SECTORS)).padStart(2, "0")}${String(number % SECTORS).padStart(2, "0")}`;
 
-/** The address in a text, such as an order's, or null. */
-export const addressIn = (text) => /\b(\d{4})\b/.exec(text)?.[1] ?? null;
+/** The address in an order as it is written, such as `b 0050 table`; null in the digits of a word that is no order. */
+export function addressIn(order) {
+    const [, address] = order.split(" ");
+    return address?.length === 4 ? address : null;
+}
 
 /** The addresses of a number of places from one on. */
 export const addressesFrom = (first, count) => Array.from({ length: count }, (unused, place) => addressOf(numberOf(first) + place));

@@ -1,7 +1,7 @@
 // The card: the sixteen orders and which of them wait for a word, what else a source may have, and the keys. It lies beside what is written, and goes away by the key that has brought it.
 import { OTHERS } from "../language.mjs";
 import { button, h } from "./dom.mjs";
-import { WITHOUT_WORD } from "./says.mjs";
+import { isWithoutWord } from "./says.mjs";
 
 /** How the console's card lists the orders. */
 const ORDERS = [..."bhcasmndeyrutpiz"];
@@ -11,7 +11,7 @@ const tableOf = (caption, heads, rows) => h("table", {}, h("caption", {}, captio
 
 /** The card. `operation` tells which operation is in the line that is written. */
 export function makeCard({ text, table }, operation) {
-    const orders = ORDERS.map((letter) => [letter, table.orders[letter], text(WITHOUT_WORD.test(`${letter} 0000`) ? "cardNoWord" : "cardWord")]);
+    const orders = ORDERS.map((letter) => [letter, table.orders[letter], text(isWithoutWord(`${letter} 0000`) ? "cardNoWord" : "cardWord")]);
     const others = OTHERS.map((name) => [name, table.otherOperations[name], table.rightOperand[name] ?? table.rightOperand.order]);
     const away = button(text("close"), () => show(false), { id: "card-close" });
     const node = h("aside", { class: "card", id: "card", "aria-label": text("card"), tabindex: "-1", hidden: true }, h("div", { class: "line" }, h("h2", {}, text("card")), away),

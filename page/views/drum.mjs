@@ -5,7 +5,7 @@ import { bitsOf } from "../module/replies.mjs";
 import { PHASES } from "../player.mjs";
 import { h, part, s } from "./dom.mjs";
 import { apart, inRadians, turned } from "./pins.mjs";
-import { WITHOUT_WORD, wordOf } from "./says.mjs";
+import { isWithoutWord, wordOf } from "./says.mjs";
 
 /** The centre of the picture of 800 to 720, and what one word time turns. */
 export const [X, Y] = [400, 372];
@@ -209,7 +209,7 @@ function stroke(pen, { from, to, width }, colour, { radius, pitch, turns, fainte
 /** What the drum shows where the machine rests: the panel's place. */
 function atRest({ panel, operand, words }, isFast) {
     const order = words.find(({ address }) => address === panel.counter)?.order ?? "";
-    return { clock: panel.clock, offset: 0, phase: isFast ? "turns" : null, next: panel.counter, operand: WITHOUT_WORD.test(order) ? null : operand, left: 0, count: isFast ? "↻" : "–", isReading: false, written: null };
+    return { clock: panel.clock, offset: 0, phase: isFast ? "turns" : null, next: panel.counter, operand: isWithoutWord(order) ? null : operand, left: 0, count: isFast ? "↻" : "–", isReading: false, written: null };
 }
 
 /** What it shows while an order is played. */

@@ -1,8 +1,6 @@
 // The words around the counter: the next order lit, changed words in colour with an arrow from the order that wrote them.
 import { button, h, memoized, part, refill, s, tell, unseen } from "./dom.mjs";
-import { rewrittenBy } from "./says.mjs";
-
-const NAME_OF_ORDER = /^-?([a-z]) /;
+import { letterOf, rewrittenBy } from "./says.mjs";
 
 /** What is told of the order that changed a word, if there was one. */
 const toldOf = (writer, text) => (writer === null ? "" : text("changed", { order: writer.order, at: writer.at ?? "–", clock: writer.clock }));
@@ -24,7 +22,7 @@ function shownIn(word, { labels, panel, comments }, { writer, stored, isNew }) {
 }
 
 function row({ address, digits, order, writer, isNext, isNew, labels, comment }, { text, table }, ask) {
-    const meaning = table.orders[NAME_OF_ORDER.exec(order)?.[1]] ?? "";
+    const meaning = table.orders[letterOf(order)] ?? "";
     return h("tr", { class: `${isNext ? "next" : ""} ${writer === null ? "" : "changed"} ${isNew ? "new" : ""}`, "data-address": address, "aria-current": isNext ? "true" : null },
         h("td", {}, button(address, () => ask(address), { class: "plain", title: `${address}: ${text("whyHint")}`, "data-name": address })),
         h("td", { class: "label" }, labels.join(" ")), h("td", {}, h("code", {}, digits)),

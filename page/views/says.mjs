@@ -1,13 +1,21 @@
 // What an order does, in one sentence for a child, from its account. Nothing here knows of a page.
 import { addressIn } from "../addresses.mjs";
 
-/** The orders that use no word. */
-export const WITHOUT_WORD = /^-?[ziput] /;
+/** The letter of an order as it is written, with or without a minus; null where the text is no order. */
+export function letterOf(order) {
+    const [name] = order.replace("-", "").split(" ");
+    return name.length === 1 ? name : null;
+}
+
+/** The letters of the orders that use no word. */
+const WITHOUT_WORD = ["z", "i", "p", "u", "t"];
+
+/** Whether an order uses no word. */
+export const isWithoutWord = (order) => WITHOUT_WORD.includes(letterOf(order));
 
 /** The address of the word that an order uses, or null where it uses none. */
-export const wordOf = (order) => (WITHOUT_WORD.test(order) ? null : addressIn(order));
+export const wordOf = (order) => (isWithoutWord(order) ? null : addressIn(order));
 
-const ORDER = /^-?([a-z]) /;
 const isNegative = (digits) => "89fgjkqw".includes(digits[0]);
 
 /** What a test has found. Only one with a sign asks for the switch; there it has to be known where the machine went on. */
@@ -20,8 +28,8 @@ function testOf({ before, order, next }) {
 
 /** The name of the sentence for an order. A stop was passed by where the machine did not stand still after it. */
 function kindOf(account) {
-    const letter = ORDER.exec(account.order)?.[1];
-    if (letter === undefined) return "other";
+    const letter = letterOf(account.order);
+    if (letter === null) return "other";
     if (letter === "t") return testOf(account);
     if (letter === "z") return account.status === "halted stop" ? "z" : "zPast";
     if (letter === "p" && account.printed?.sign == null) return "pCode";
@@ -31,7 +39,7 @@ function kindOf(account) {
 /** The name of the sentence that says how far the drum had to turn, or null. */
 function waitOf({ order, find }, kind) {
     if (kind === "other") return null;
-    return `waits${find === 0 ? "Register" : "Order"}${WITHOUT_WORD.test(order) ? "" : "Word"}`;
+    return `waits${find === 0 ? "Register" : "Order"}${isWithoutWord(order) ? "" : "Word"}`;
 }
 
 /** The sentences of an order by their names: what it does, and how far the drum had to turn; and what stands in their places. */
@@ -43,7 +51,7 @@ export function saysOf(account) {
 
 /** What an order has rewritten: another one, to which it has given another address. Null where it has not. */
 export function rewrittenBy({ order, at, stored }) {
-    if (stored === null || !/^-?[yr] /.test(order) || stored.before.digits === stored.after.digits) return null;
+    if (stored === null || !["y", "r"].includes(letterOf(order)) || stored.before.digits === stored.after.digits) return null;
     const named = ({ order: name, digits }) => name ?? digits;
     return { o: order, at: at ?? "–", m: stored.address, b: named(stored.before), a: named(stored.after) };
 }
