@@ -12,11 +12,14 @@ export const numberOf = (address) => SECTORS * Number(address.slice(0, 2)) + Num
 /** The address of a number. */
 export const addressOf = (number) => `${String(Math.floor(number / SECTORS)).padStart(2, "0")}${String(number % SECTORS).padStart(2, "0")}`;
 
-/** The address in an order as it is written, such as `b 0050 table`; null in the digits of a word that is no order. */
-export function addressIn(order) {
-    const [, address] = order.split(" ");
-    return address?.length === 4 ? address : null;
+/** The letter and the address of an order as it is written, such as `-t 0050 table`; null of a text that is none, such as a status. */
+export function partsOfOrder(text) {
+    const [letter, address] = (text.startsWith("-") ? text.slice(1) : text).split(" ");
+    return letter.length === 1 ? { letter, address } : { letter: null, address: null };
 }
+
+/** The address in an order as it is written, or null. */
+export const addressIn = (text) => partsOfOrder(text).address;
 
 /** The addresses of a number of places from one on. */
 export const addressesFrom = (first, count) => Array.from({ length: count }, (unused, place) => addressOf(numberOf(first) + place));

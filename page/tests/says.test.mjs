@@ -1,11 +1,17 @@
 import assert from "node:assert/strict";
 import { test } from "node:test";
-import { rewrittenBy, saysOf } from "../views/says.mjs";
+import { letterOf, rewrittenBy, saysOf, wordOf } from "../views/says.mjs";
 import { LANGUAGES } from "../words.mjs";
 
 /** An account as the reader of replies makes it, with these fields. */
 const account = (fields) => ({ order: "b 0020", at: "0004", find: 24, take: 1, seek: 15, act: 1, before: "00000000", after: "00000000", stored: null, printed: null, passed: 0, ...fields });
 const word = (digits, order = null) => ({ digits, order, number: 0 });
+
+test("an order as it is written has a letter, and the address of its word where it uses one; another text has neither", () => {
+    const partsOf = (order) => [letterOf(order), wordOf(order)];
+    assert.deepEqual(["b 0050", "b 0050 table+1", "u 0007 loop", "-t 0007"].map(partsOf), [["b", "0050"], ["b", "0050"], ["u", null], ["t", null]]);
+    assert.deepEqual(["word 0000001f", "halted stop", "reading", ""].map(partsOf), [[null, null], [null, null], [null, null], [null, null]]);
+});
 
 test("an order that uses a word tells both waits, one that uses none tells the first alone", () => {
     const { kind, waits, values } = saysOf(account());

@@ -1,11 +1,8 @@
 // What an order does, in one sentence for a child, from its account. Nothing here knows of a page.
-import { addressIn } from "../addresses.mjs";
+import { addressIn, partsOfOrder } from "../addresses.mjs";
 
-/** The letter of an order as it is written, with or without a minus; null where the text is no order. */
-export function letterOf(order) {
-    const [name] = order.replace("-", "").split(" ");
-    return name.length === 1 ? name : null;
-}
+/** The letter of an order as it is written, or null. */
+export const letterOf = (order) => partsOfOrder(order).letter;
 
 /** The letters of the orders that use no word. */
 const WITHOUT_WORD = ["z", "i", "p", "u", "t"];
