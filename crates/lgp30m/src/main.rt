@@ -1,7 +1,9 @@
 //! The monitor's program: it hands the library the words of the command line, standard input, standard output and standard error.
 #![tactic(auto)]
 
-use lgp_desk::{FilesOf, Filing, Manner, obey_session};
+ghost use Rattle.std.specs.Prelude.{None};
+
+use lgp_desk::{Files, Manner, obey_session};
 use lgp_lab::{FeedOf, READS, SinkOf, WordFault};
 use lgp_monitor::Progress;
 use std::fs::File;
@@ -14,7 +16,7 @@ const ENDINGS: [&str; 4] = [".new", ".new1", ".new2", ".new3"];
 
 /// The files of the system, by their paths.
 #[derive(Clone, Copy, Drop)]
-struct HostFiling<'a> {
+struct HostFiles<'a> {
     rt: &'a HostRuntime,
 }
 
@@ -53,7 +55,9 @@ fn replace_file(rt: &HostRuntime, name: &str, text: &[u8]) -> io::Result<()> {
     replaced
 }
 
-impl Filing for HostFiling<'_> {
+impl Files for HostFiles<'_> {
+    ghost known = { λ files name. None };
+
     type Reader = FeedOf<File>;
 
     fn open(&self, name: &str) -> Option<FeedOf<File>> {
@@ -127,8 +131,8 @@ fn progress(rt: &HostRuntime) -> ShownProgress<'_> {
     }
 }
 
-/// Does what the words of the command line ask for, with files where they are kept; answers the status.
-fn obey<F: Filing + Drop>(rt: &HostRuntime, filing: F, words: Result<&[String], WordFault>) -> u8 {
+/// Does what the words of the command line ask for; answers the status.
+fn obey(rt: &HostRuntime, words: Result<&[String], WordFault>) -> u8 {
     let mut input = FeedOf::new(rt.reader(), READS);
     let mut output = SinkOf::new(io::writer(rt));
     let mut messages = SinkOf::new(rt.stderr());
@@ -137,7 +141,7 @@ fn obey<F: Filing + Drop>(rt: &HostRuntime, filing: F, words: Result<&[String], 
         rt.alloc(),
         words,
         manner(rt),
-        FilesOf::new(filing),
+        &HostFiles { rt },
         progress(rt),
         &mut input,
         &mut output,
@@ -147,8 +151,8 @@ fn obey<F: Filing + Drop>(rt: &HostRuntime, filing: F, words: Result<&[String], 
 
 fn main(rt: HostRuntime) -> ExitCode {
     let status = match words(&rt) {
-        Ok(words) => obey(&rt, HostFiling { rt: &rt }, Ok(&words)),
-        Err(error) => obey(&rt, HostFiling { rt: &rt }, Err(word_fault(&error))),
+        Ok(words) => obey(&rt, Ok(&words)),
+        Err(error) => obey(&rt, Err(word_fault(&error))),
     };
     ExitCode::from(status)
 }

@@ -84,7 +84,7 @@ fn codes_enter_by_four_or_six_bits(rt: HostRuntime) {
 
 /// The form of a text.
 #[derive(Clone, Copy, Debug, PartialEq, Eq)]
-enum Form {
+enum ReadAs {
     Tape,
     Archive,
 }
@@ -103,10 +103,14 @@ fn reading<A: Allocator>(read: Result<Vec<Code, A>, TextFault>) -> Reading {
     }
 }
 
-fn read<A: Allocator + Copy>(alloc: A, form: Form, text: &[u8]) -> Result<Vec<Code, A>, TextFault> {
+fn read<A: Allocator + Copy>(
+    alloc: A,
+    form: ReadAs,
+    text: &[u8],
+) -> Result<Vec<Code, A>, TextFault> {
     match form {
-        Form::Tape => read_tape_text(alloc, text),
-        Form::Archive => read_archive_text(alloc, text),
+        ReadAs::Tape => read_tape_text(alloc, text),
+        ReadAs::Archive => read_archive_text(alloc, text),
     }
 }
 
@@ -125,7 +129,7 @@ fn have_numbers(codes: &[Code], numbers: &[u8]) -> bool {
 /// Whether a text is read as the codes of these numbers; `None` without memory.
 fn is_read<A: Allocator + Copy>(
     alloc: A,
-    (form, text, numbers): (Form, &[u8], &[u8]),
+    (form, text, numbers): (ReadAs, &[u8], &[u8]),
 ) -> Option<bool> {
     match read(alloc, form, text) {
         Ok(codes) => Some(have_numbers(codes.as_slice(), numbers)),
@@ -155,40 +159,40 @@ const ARCHIVED_CODES: [u8; 88] = [
 ];
 
 /// Texts and the numbers of their codes: of an archive each byte by itself, groups, and a line of a program with a heading.
-static READ: [(Form, &[u8], &[u8]); 5] = [
-    (Form::Tape, b"12[16]3'", &[6, 10, 16, 14, 32]),
-    (Form::Tape, b"l\r\n[02][63]\n", &[6, 2, 63]),
-    (Form::Archive, ARCHIVED, &ARCHIVED_CODES),
-    (Form::Archive, b"a!00!63\ns", &[57, 0, 63, 61]),
+static READ: [(ReadAs, &[u8], &[u8]); 5] = [
+    (ReadAs::Tape, b"12[16]3'", &[6, 10, 16, 14, 32]),
+    (ReadAs::Tape, b"l\r\n[02][63]\n", &[6, 2, 63]),
+    (ReadAs::Archive, ARCHIVED, &ARCHIVED_CODES),
+    (ReadAs::Archive, b"a!00!63\ns", &[57, 0, 63, 61]),
     (
-        Form::Archive,
+        ReadAs::Archive,
         b";000L'/0r\r\n!08LOG!04'",
         &[15, 2, 2, 2, 6, 32, 19, 2, 13, 16, 8, 6, 35, 46, 4, 32],
     ),
 ];
 
 /// Bad texts, and the places of their first bad bytes.
-static BAD: [(Form, &[u8], usize); 16] = [
-    (Form::Tape, b"[6", 0),
-    (Form::Tape, b"[64]", 0),
-    (Form::Tape, b"[0a]", 0),
-    (Form::Tape, b"[[02]", 0),
-    (Form::Tape, b"1[02", 1),
-    (Form::Tape, b"12A", 2),
-    (Form::Tape, b"1[03]A_", 5),
-    (Form::Tape, b"\n[03]]", 5),
-    (Form::Archive, b"!", 0),
-    (Form::Archive, b"!1", 0),
-    (Form::Archive, b"a!64", 1),
-    (Form::Archive, b"!0a", 0),
-    (Form::Archive, b"!!04", 0),
-    (Form::Archive, b"!04!64)", 3),
-    (Form::Archive, b"12\n<34", 3),
-    (Form::Archive, b"[02]@", 4),
+static BAD: [(ReadAs, &[u8], usize); 16] = [
+    (ReadAs::Tape, b"[6", 0),
+    (ReadAs::Tape, b"[64]", 0),
+    (ReadAs::Tape, b"[0a]", 0),
+    (ReadAs::Tape, b"[[02]", 0),
+    (ReadAs::Tape, b"1[02", 1),
+    (ReadAs::Tape, b"12A", 2),
+    (ReadAs::Tape, b"1[03]A_", 5),
+    (ReadAs::Tape, b"\n[03]]", 5),
+    (ReadAs::Archive, b"!", 0),
+    (ReadAs::Archive, b"!1", 0),
+    (ReadAs::Archive, b"a!64", 1),
+    (ReadAs::Archive, b"!0a", 0),
+    (ReadAs::Archive, b"!!04", 0),
+    (ReadAs::Archive, b"!04!64)", 3),
+    (ReadAs::Archive, b"12\n<34", 3),
+    (ReadAs::Archive, b"[02]@", 4),
 ];
 
 /// How a text is read where the first growth is refused, and whether one was asked for.
-fn read_without_memory(global: Global, form: Form, text: &[u8]) -> (Reading, bool) {
+fn read_without_memory(global: Global, form: ReadAs, text: &[u8]) -> (Reading, bool) {
     let limited = Limited::new(global);
     limited.refuse(1);
     (reading(read(&limited, form, text)), limited.was_refused())
@@ -256,7 +260,7 @@ fn long_written_and_read(global: Global, count: usize) -> Option<(usize, bool)> 
 }
 
 /// How a text of a given number of signs is read, with others after them.
-fn read_many(global: Global, form: Form, (sign, count): (u8, usize), others: &[u8]) -> Reading {
+fn read_many(global: Global, form: ReadAs, (sign, count): (u8, usize), others: &[u8]) -> Reading {
     let mut text = vec![in global; sign; count].ok()?;
     text.extend_from_slice(others).ok()?;
     reading(read(global, form, text.as_slice()))
@@ -266,9 +270,9 @@ fn read_many(global: Global, form: Form, (sign, count): (u8, usize), others: &[u
 fn the_longest_tape_is_written_and_read_and_one_code_more_is_refused(rt: HostRuntime) {
     let alloc = rt.alloc();
     let read = [
-        read_many(alloc, Form::Tape, (b'a', TAPE_LIMIT + 1), b""),
-        read_many(alloc, Form::Archive, (b'\r', TAPE_LIMIT), b"\n\n"),
-        read_many(alloc, Form::Archive, (b'\r', TAPE_LIMIT + 1), b""),
+        read_many(alloc, ReadAs::Tape, (b'a', TAPE_LIMIT + 1), b""),
+        read_many(alloc, ReadAs::Archive, (b'\r', TAPE_LIMIT), b"\n\n"),
+        read_many(alloc, ReadAs::Archive, (b'\r', TAPE_LIMIT + 1), b""),
     ];
     let written = long_written_and_read(alloc, TAPE_LIMIT);
     expect_eq(

@@ -19,7 +19,7 @@ use std::alloc::{AllocError, Allocator, Global};
 
 /// In which form a drum or codes are written.
 #[derive(Clone, Copy)]
-pub enum Form<'a> {
+pub enum Made<'a> {
     /// The dump of a drum.
     Dump(&'a Drum),
     /// The deposits of a drum.
@@ -33,13 +33,13 @@ pub enum Form<'a> {
 }
 
 /// A drum or codes in this form.
-fn written<A: Allocator + Copy>(alloc: A, form: Form) -> Result<Vec<u8, A>, AllocError> {
+fn written<A: Allocator + Copy>(alloc: A, form: Made) -> Result<Vec<u8, A>, AllocError> {
     match form {
-        Form::Dump(drum) => dump(alloc, drum),
-        Form::Deposits(drum) => deposits_of(alloc, drum),
-        Form::Archive(codes) => write_archive_text(alloc, codes),
-        Form::Bytes(codes) => tape_bytes(alloc, codes),
-        Form::Paper(codes) => paper_of(alloc, codes),
+        Made::Dump(drum) => dump(alloc, drum),
+        Made::Deposits(drum) => deposits_of(alloc, drum),
+        Made::Archive(codes) => write_archive_text(alloc, codes),
+        Made::Bytes(codes) => tape_bytes(alloc, codes),
+        Made::Paper(codes) => paper_of(alloc, codes),
     }
 }
 
@@ -100,7 +100,7 @@ fn is_listed_so<A: Allocator + Copy>(
     }
 }
 
-pub fn is_written<A: Allocator + Copy>(alloc: A, form: Form, ample: &[u8]) -> Option<bool> {
+pub fn is_written<A: Allocator + Copy>(alloc: A, form: Made, ample: &[u8]) -> Option<bool> {
     match written(alloc, form) {
         Ok(bytes) => Some(bytes.as_slice() == ample),
         Err(_) => None,
@@ -215,7 +215,7 @@ fn each_growth_of_a_survey_is_refused(rt: HostRuntime) {
 /// Whether the dump of a drum and the drum read from it have growths.
 fn growths_of_dump<B: Allocator>(limited: &Limited<B>, drum: &Drum, text: &[u8]) -> [bool; 2] {
     [
-        in_turn(limited, || is_written(limited, Form::Dump(drum), text)) >= 1,
+        in_turn(limited, || is_written(limited, Made::Dump(drum), text)) >= 1,
         in_turn(limited, || is_dumped_drum(limited, text, drum)) >= 1,
     ]
 }
@@ -223,7 +223,7 @@ fn growths_of_dump<B: Allocator>(limited: &Limited<B>, drum: &Drum, text: &[u8])
 /// Whether the deposits of a drum have more growths than one, and the drum read from them has one.
 fn growths_of_deposits<B: Allocator>(limited: &Limited<B>, drum: &Drum, text: &[u8]) -> [bool; 2] {
     [
-        in_turn(limited, || is_written(limited, Form::Deposits(drum), text)) > 1,
+        in_turn(limited, || is_written(limited, Made::Deposits(drum), text)) > 1,
         in_turn(limited, || is_examined_drum(limited, text, drum)) == 1,
     ]
 }
@@ -264,18 +264,18 @@ fn growths_of_codes<B: Allocator>(limited: &Limited<B>, tape: &[Code], row: &[Co
     [
         in_turn(
             limited,
-            || is_written(limited, Form::Archive(tape), &[b'0'; 100]),
+            || is_written(limited, Made::Archive(tape), &[b'0'; 100]),
         ) > 1,
         in_turn(
             limited,
-            || is_written(limited, Form::Bytes(tape), &[2; 100]),
+            || is_written(limited, Made::Bytes(tape), &[2; 100]),
         ) == 1,
         in_turn(limited, || is_tape_of_bytes(limited, &[2; 100], tape)) == 1,
         in_turn(
             limited,
             || marks::is_shown(limited, b" b none", FaultKind::UnknownName, marked),
         ) > 1,
-        in_turn(limited, || is_written(limited, Form::Paper(row), &paper)) > 5,
+        in_turn(limited, || is_written(limited, Made::Paper(row), &paper)) > 5,
     ]
 }
 

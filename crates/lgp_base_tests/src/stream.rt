@@ -4,7 +4,10 @@ ghost use Rattle.std.specs.Prelude.{◌++◌, codes};
 ghost use Rattle.lgp_stream.specs.KeptLine.{kept_of};
 
 use crate::{expect_eq, text_of};
-use lgp_stream::{Answers, FeedOf, LineBytes, SinkOf, StreamFault, run_text, write_whole};
+use lgp_stream::{
+    Answers, Failed, Feed, FeedOf, LineBytes, LineReader, SinkOf, StreamFault, run_text,
+    write_whole,
+};
 use std::alloc::{AllocError, Allocator, Global};
 use std::io::{Read, Write};
 
@@ -163,4 +166,68 @@ fn a_write_is_counted_after_what_was_written(rt: HostRuntime) {
             ],
         ),
     );
+}
+
+/// Appends each line that is read, and a line feed; answers how many there were. `None` where memory is refused.
+fn append_lines<R: Feed>(feed: &mut R, text: &mut Vec<u8, Global>) -> Option<Result<u32, Failed>> {
+    let mut lines = LineReader::new();
+    for count in 0..u32::MAX {
+        match lines.next_line(feed) {
+            Ok(true) => {
+                text.extend_from_slice(lines.line().front()).ok()?;
+                text.push(b'\n').ok()?;
+            }
+            Ok(false) => return Some(Ok(count)),
+            Err(failed) => return Some(Err(failed)),
+        }
+    }
+    None
+}
+
+/// A text, how many reads are left, the lines that are read then, and how many they are.
+type Reading = (&'static [u8], u64, &'static [u8], Result<u32, Failed>);
+
+static READINGS: [Reading; 7] = [
+    (b"", 1000, b"", Ok(0)),
+    (b"\n", 1000, b"\n", Ok(1)),
+    (b"one\r\n\ntwo", 1000, b"one\n\ntwo\n", Ok(3)),
+    (b"\r\r\ntwo\r", 1000, b"\r\ntwo\r\n", Ok(2)),
+    (b"one\ntwo\n", 1, b"one\ntwo\n", Err(Failed)),
+    (b"one\ntwo", 1, b"one\n", Err(Failed)),
+    (b"one\n", 0, b"", Err(Failed)),
+];
+
+/// Whether these lines are read of a text, and so many.
+fn is_read(
+    alloc: Global,
+    text: &[u8],
+    reads: u64,
+    wanted: &[u8],
+    count: Result<u32, Failed>,
+) -> bool {
+    let mut lines = Vec::new(alloc);
+    append_lines(&mut FeedOf::new(text, reads), &mut lines) == Some(count)
+        && lines.as_slice() == wanted
+}
+
+#[test]
+fn lines_are_read_one_after_another(rt: HostRuntime) {
+    for (text, reads, wanted, count) in &READINGS {
+        let seen = is_read(rt.alloc(), text, *reads, wanted, *count);
+        expect_eq(&rt, (*text, seen), (*text, true));
+    }
+}
+
+/// How many lines are read of a line of 10,000 bytes and 4,096 lines of fifteen, and how many bytes are kept of them.
+fn long_read(alloc: Global) -> Option<(Result<u32, Failed>, usize)> {
+    let pieces: [(&[u8], u32); 3] = [(b"x", 10_000), (b"\n", 1), (b"0123456789abcde\n", 4_096)];
+    let text = text_of(alloc, &pieces)?;
+    let mut lines = Vec::new(alloc);
+    let count = append_lines(&mut FeedOf::new(text.as_slice(), 1000), &mut lines)?;
+    Some((count, lines.len()))
+}
+
+#[test]
+fn long_lines_are_read(rt: HostRuntime) {
+    expect_eq(&rt, long_read(rt.alloc()), Some((Ok(4097), 4097 + 65_536)));
 }

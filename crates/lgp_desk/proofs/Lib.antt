@@ -1,6 +1,9 @@
-pub mod SaidLemmas
-pub mod SomeTexts
 pub mod FormLemmas
-pub mod SessionLemmas
+pub mod FileLemmas
+pub mod OpenLemmas
+pub mod SourceLemmas
+pub mod WishLaws
+pub mod ToldLemmas
+pub mod ServedLemmas
 pub mod TranscriptLaws
 pub mod KeptLaws

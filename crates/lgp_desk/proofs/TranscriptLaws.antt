@@ -1,8 +1,8 @@
 -- What a session hands over, as the transcript says it.
-use Rattle.std.proofs.Common.{◌≡◌, ℕ, zero, suc, ◌+◌, ◌/◌, ◌%◌, ◌==◌, Bool, true, false, cond, nat_le, is_none, Option, Some, None, option_map, Result, Ok, Err, List, [], ◌∷◌, ◌++◌, codes, length, refl, arith}
+use Rattle.std.proofs.Common.{◌≡◌, ℕ, zero, suc, ◌+◌, ◌-◌, ◌/◌, ◌%◌, ◌==◌, Bool, true, false, cond, nat_le, is_none, is_some, Option, Some, None, Result, Ok, Err, List, [], ◌∷◌, ◌++◌, codes, length, refl, arith}
 use Rattle.std.specs.List.{AllByRecursion, list_any}
 use Rattle.std.specs.Option.{option_map_or}
-use Rattle.std.specs.Prelude.{slice_get}
+use Rattle.std.specs.Prelude.{slice_get, take}
 use Rattle.std.specs.Str.{bytes_eq}
 use Rattle.std.specs.Str.Lines.{lines}
 use Rattle.std.proofs.lemmas.Bool.Decides.{nat_tests}
@@ -12,7 +12,6 @@ use Rattle.lgp_flexo.specs.Code.{is_stop, other_signs, sign_at, stop_sign}
 use Rattle.lgp_flexo.specs.TapeText.{sign_or_group, written_code, written_tape}
 use Rattle.lgp_stream.specs.KeptLine.{kept_of}
 use Rattle.lgp_stream.specs.Language.{is_line_feed}
-use Rattle.lgp_stream.specs.Speech.{after_said}
 use Rattle.lgp_stream.specs.Transcript.{IsLine, IsReportedByTranscript, after_lines}
 use Rattle.lgp_stream.proofs.LineLaws.{IsReported, IsReported-all, IsReported-lines, IsReported-meaning, IsReported-none, lines_are_lines}
 use Rattle.lgp_script.specs.Script.{script_language}
@@ -21,15 +20,12 @@ use Rattle.lgp_monitor.specs.FileTexts.{restore_lines}
 use Rattle.lgp_monitor.specs.Monitor.{meaning_at}
 use Rattle.lgp_monitor.proofs.LineLemmas.{free-at}
 use Rattle.lgp_monitor.proofs.RestoreLemmas.{free-restored}
-use Rattle.lgp_desk.specs.Desk.{Handed, IsSayable, Said, Seat, all_answered, and_then, answered, desk_speech, file_said, first_said, handed_to, line_said, lines_said, left_by, long_tape, mounted, mount_limit, nothing, own, refused, restored, restored_or_refused, said, saved, session_end, session_handed, source_said, taken_seat, tape_or_refused, text_at, typed_by, used, used_or_refused, within, worked}
-use Rattle.lgp_desk.specs.FileForms.{dump_in, tape_of, text_made}
-use Rattle.lgp_desk.specs.Files.{Drawer, takes, with_file}
+use Rattle.lgp_desk.specs.Desk.{First, Found, Handed, IsSayable, IsTyped, Kept, Onward, Opened, Said, Seat, Told, Typed, Wanted, all_answered, all_said, and_then, answered, asked, first_named, found_said, is_deep, is_keep, kept_or_refused, kept_said, left_by, line_said, long_tape, mounted, mount_limit, next_said, nothing, note_at, onward_said, refused, restored, restored_or_refused, said_to, source_said, taken_seat, tape_or_refused, used, takes_lines, used_or_refused, wanting, within}
+use Rattle.lgp_desk.specs.FileForms.{dump_in, tape_of}
 use Rattle.lgp_desk.specs.Requests.{is_quit, request_of}
-use Rattle.lgp_desk.specs.Troubles.{kept_text, line_note}
 use Rattle.lgp_desk.specs.declared.files.FileTrouble.{FileTrouble}
 use Rattle.lgp_desk.specs.declared.files.FileTrouble.TheVariants as troubles
 use Rattle.lgp_desk.specs.declared.request.DrumForm.{DrumForm}
-use Rattle.lgp_desk.specs.declared.request.Made.{Made}
 use Rattle.lgp_desk.specs.declared.request.Work.{Work}
 use Rattle.lgp_desk.specs.declared.request.Work.TheVariants as works
 use Rattle.lgp_desk.specs.declared.writing.Manner.{Manner}
@@ -82,10 +78,42 @@ free-tape : (tape : List ℕ) → IsLine (written_tape tape)
 free-tape [] = tt
 free-tape (code ∷ more) = free-append (written_code code) (written_tape more) (free-code code) (free-tape more)
 
+-- ---- files whose lines are typed have lines
+
+abbrev IsFreeFile : Opened → Type 0
+IsFreeFile file = AllByRecursion IsLine file.left
+
+abbrev IsFreeInner : Option Opened → Type 0
+IsFreeInner (Some file) = IsFreeFile file
+IsFreeInner None = Unit {0}
+
+abbrev AreFreeFiles : List Opened → Type 0
+AreFreeFiles files = AllByRecursion IsFreeFile files
+
+files-append : (files : List Opened) (file : Opened) → AreFreeFiles files → IsFreeFile file → AreFreeFiles (files ++ file ∷ [])
+files-append [] file free last = (last, tt)
+files-append (first ∷ more) file free last = (free.0, files-append more file free.1 last)
+
+files-get : (files : List Opened) (i : ℕ) → AreFreeFiles files → IsFreeInner (slice_get files i)
+files-get [] i free = tt
+files-get (first ∷ more) zero free = free.0
+files-get (first ∷ more) (suc i) free = files-get more i free.1
+
+files-take : (n : ℕ) (files : List Opened) → AreFreeFiles files → AreFreeFiles (take n files)
+files-take zero files free = tt
+files-take (suc n) [] free = tt
+files-take (suc n) (first ∷ more) free = (free.0, files-take n more free.1)
+
+files-open : (inner : Option Opened) (outer : List Opened) → IsFreeInner inner → AreFreeFiles outer → AreFreeFiles (option_map_or (λ (file : Opened). outer ++ file ∷ []) inner outer)
+files-open (Some file) outer free files = files-append outer file files free
+files-open None outer free files = files
+
 -- ---- what was reported so far, and what is said then
 
 abbrev IsReported-at : Seat → Type 0
-IsReported-at seat = IsReported script_language opening_state seat.recorded.state seat.recorded.transcript
+IsReported-at seat =
+    IsReported script_language opening_state seat.recorded.state seat.recorded.transcript
+    × IsFreeInner seat.inner × AreFreeFiles seat.outer
 
 abbrev AreSayable : List Handed → Type 0
 AreSayable items = AllByRecursion IsSayable items
@@ -108,7 +136,7 @@ reported-then first more one rest all =
 
 reported-answered : (note : List ℕ) (seat : Seat) (line : List ℕ) → IsLine line → IsReported-at seat → IsReportedAfter (answered note seat line)
 reported-answered note seat line free reported all =
-    IsReported-meaning script_language opening_state seat.recorded (meaning_at seat.recorded line) reported (free-at seat.recorded line free)
+    (IsReported-meaning script_language opening_state seat.recorded (meaning_at seat.recorded line) reported.0 (free-at seat.recorded line free), reported.1, reported.2)
 
 reported-all : (note : List ℕ) (seat : Seat) (lines : List (List ℕ)) → AllByRecursion IsLine lines → IsReported-at seat → IsReportedAfter (all_answered note seat lines)
 reported-all note seat [] free reported = λ all. reported
@@ -119,7 +147,7 @@ reported-all note seat (line ∷ more) free reported =
 reported-restored : (form : DrumForm) (note : List ℕ) (seat : Seat) (name dump : List ℕ) → IsReported-at seat → IsReportedAfter (restored form note seat name dump)
 unfolding restored after_lines
 reported-restored form note seat name dump reported all =
-    IsReported-lines script_language opening_state seat.recorded.state seat.recorded.transcript (restore_lines seat.recorded dump) reported (free-restored seat.recorded dump)
+    (IsReported-lines script_language opening_state seat.recorded.state seat.recorded.transcript (restore_lines seat.recorded dump) reported.0 (free-restored seat.recorded dump), reported.1, reported.2)
 
 reported-mounted : (note : List ℕ) (seat : Seat) (name text : List ℕ) → IsLine text → IsReported-at seat → IsReportedAfter (mounted note seat name text)
 unfolding mounted long_tape
@@ -147,98 +175,103 @@ reported-source note seat name text reported = by_point (list_any (λ line. byte
   by_point true = λ all. reported
   by_point false = reported-all (within name note) seat (codes "source" ∷ (lines text ++ codes "." ∷ [])) (grind arith, free-ended (lines text) (codes ".") (lines_are_lines text) (refl, tt)) reported
 
-reported-saved : (made : Made) (note : List ℕ) (seat : Seat) (name : List ℕ) → IsReported-at seat → IsReportedAfter (saved made note seat name)
-unfolding saved
-reported-saved made note seat name reported = by_kept (option_map_or (λ (drawer : Drawer). takes drawer name) seat.drawer false) where
-  text : List ℕ
-  text = text_made made seat.recorded.state.debugger.state
-
-  by_kept : (kept : Bool) → IsReportedAfter (cond kept (own note (record seat { drawer = option_map (λ (drawer : Drawer). with_file drawer name text) seat.drawer }) (kept_text name)) (refused note seat name troubles.NotWritten))
-  by_kept true = λ all. reported
-  by_kept false = λ all. reported
-
 reported-used : (work : Work) (note : List ℕ) (seat : Seat) (name text : List ℕ) → IsReported-at seat → IsReportedAfter (used work note seat name text)
 reported-used works.Source note seat name text reported = reported-source note seat name text reported
 reported-used (works.Tape form) note seat name text reported = reported-tape note seat name (tape_of form text) reported
 reported-used (works.Restore form) note seat name text reported = reported-drum form note seat name (dump_in form text) reported
-reported-used works.Lines note seat name text reported = λ all. reported
+reported-used works.Lines note seat name text reported = λ all. (reported.0, lines_are_lines text, files-open seat.inner seat.outer reported.1 reported.2)
 reported-used (works.Keep made) note seat name text reported = λ all. reported
 
 reported-file : (work : Work) (note : List ℕ) (seat : Seat) (name : List ℕ) (text : Result (List ℕ) FileTrouble) → IsReported-at seat → IsReportedAfter (used_or_refused work note seat name text)
 reported-file work note seat name (Ok text) reported = reported-used work note seat name text reported
 reported-file work note seat name (Err trouble) reported = λ all. reported
 
-reported-worked : (typed : List ℕ → Said) (note : List ℕ) (seat : Seat) (work : Work) (name : List ℕ) → IsReported-at seat → IsReportedAfter (typed name) → IsReportedAfter (worked typed note seat work name)
-reported-worked typed note seat works.Lines name reported lines = lines
-reported-worked typed note seat (works.Keep made) name reported lines = reported-saved made note seat name reported
-reported-worked typed note seat works.Source name reported lines = reported-file works.Source note seat name (text_at seat name) reported
-reported-worked typed note seat (works.Tape form) name reported lines = reported-file (works.Tape form) note seat name (text_at seat name) reported
-reported-worked typed note seat (works.Restore form) name reported lines = reported-file (works.Restore form) note seat name (text_at seat name) reported
+reported-kept : (note : List ℕ) (seat : Seat) (name : List ℕ) (kept : Bool) → IsReported-at seat → IsReportedAfter (kept_or_refused note seat name kept)
+reported-kept note seat name true reported = λ all. reported
+reported-kept note seat name false reported = λ all. reported
 
--- ---- lines, to any depth
+-- ---- a line
 
-abbrev TellsLines : (List ℕ → Seat → List ℕ → Said) → Type 0
-TellsLines say = (note : List ℕ) (seat : Seat) (line : List ℕ) → IsLine line → IsReported-at seat → IsReportedAfter (say note seat line)
+reported-asked : (work : Work) (note : List ℕ) (seat : Seat) (name : List ℕ) → IsReported-at seat → IsReportedAfter (asked work note seat name)
+reported-asked works.Lines note seat name reported = by_depth (is_deep seat) where
+  by_depth : (deep : Bool) → IsReportedAfter (cond deep (refused note seat name troubles.TooDeep) (wanting works.Lines note seat name))
+  by_depth true = λ all. reported
+  by_depth false = λ all. reported
+reported-asked works.Source note seat name reported = λ all. reported
+reported-asked (works.Tape form) note seat name reported = λ all. reported
+reported-asked (works.Restore form) note seat name reported = λ all. reported
+reported-asked (works.Keep made) note seat name reported = λ all. reported
 
-reported-lines : (say : List ℕ → Seat → List ℕ → Said) (name : List ℕ) (number : ℕ) (seat : Seat) (lines : List (List ℕ)) → TellsLines say → AllByRecursion IsLine lines → IsReported-at seat
-    → IsReportedAfter (lines_said say name number seat lines)
-reported-lines say name number seat [] tells free reported = λ all. reported
-reported-lines say name number seat (line ∷ more) tells free reported =
-    reported-then (say (line_note number name) seat line) (λ next. lines_said say name (number + 1) next more) (tells (line_note number name) seat line free.0 reported)
-    (λ next reported-next. reported-lines say name (number + 1) next more tells free.1 reported-next)
+reported-line : (seat : Seat) (line : List ℕ) → IsLine line → IsReported-at seat → IsReportedAfter (line_said seat line)
+reported-line seat line free reported = by_role (is_none seat.recorded.state.opened) (is_quit (kept_of line)) (kept_of line).longer (request_of (kept_of line).front) where
+  note : List ℕ
+  note = note_at seat
 
-reported-file_said : (say : List ℕ → Seat → List ℕ → Said) (note : List ℕ) (seat : Seat) (name : List ℕ) (text : Result (List ℕ) FileTrouble) → TellsLines say → IsReported-at seat → IsReportedAfter (file_said say note seat name text)
-reported-file_said say note seat name (Ok text) tells reported = reported-lines say name 1 seat (lines text) tells (lines_are_lines text) reported
-reported-file_said say note seat name (Err trouble) tells reported = λ all. reported
-
-abbrev Tells : Option (List ℕ → Seat → List ℕ → Said) → Type 0
-Tells None = Unit {0}
-Tells (Some say) = TellsLines say
-
-reported-typed : (inner : Option (List ℕ → Seat → List ℕ → Said)) (note : List ℕ) (seat : Seat) (name : List ℕ) → Tells inner → IsReported-at seat → IsReportedAfter (typed_by inner note seat name)
-reported-typed None note seat name tells reported = λ all. reported
-reported-typed (Some say) note seat name tells reported = reported-file_said say note seat name (text_at seat name) tells reported
-
-reported-line : (inner : Option (List ℕ → Seat → List ℕ → Said)) (note : List ℕ) (seat : Seat) (line : List ℕ) → Tells inner → IsLine line → IsReported-at seat → IsReportedAfter (line_said (typed_by inner note seat) note seat line)
-reported-line inner note seat line tells free reported = by_role seat.has_left (is_none seat.recorded.state.opened) (is_quit (kept_of line)) (kept_of line).longer (request_of (kept_of line).front) where
   answer : IsReportedAfter (answered note seat line)
   answer = reported-answered note seat line free reported
 
-  by_request : (request : Option (Work × List ℕ)) → IsReportedAfter (option_map_or (λ (it : Work × List ℕ). worked (typed_by inner note seat) note seat it.0 it.1) request (answered note seat line))
+  by_request : (request : Option (Work × List ℕ)) → IsReportedAfter (option_map_or (λ (it : Work × List ℕ). asked it.0 note seat it.1) request (answered note seat line))
   by_request None = answer
-  by_request (Some request) = reported-worked (typed_by inner note seat) note seat request.0 request.1 reported (reported-typed inner note seat request.1 tells reported)
+  by_request (Some request) = reported-asked request.0 note seat request.1 reported
 
-  by_role : (left commands quit longer : Bool) (request : Option (Work × List ℕ))
-      → IsReportedAfter (cond left (nothing seat) (cond commands (cond quit (left_by seat line) (cond longer (answered note seat line) (option_map_or (λ (it : Work × List ℕ). worked (typed_by inner note seat) note seat it.0 it.1) request (answered note seat line)))) (answered note seat line)))
-  by_role true commands quit longer request = λ all. reported
-  by_role false false quit longer request = answer
-  by_role false true true longer request = λ all. reported
-  by_role false true false true request = answer
-  by_role false true false false request = by_request request
+  by_role : (commands quit longer : Bool) (request : Option (Work × List ℕ))
+      → IsReportedAfter (cond commands (cond quit (left_by seat line) (cond longer (answered note seat line) (option_map_or (λ (it : Work × List ℕ). asked it.0 note seat it.1) request (answered note seat line)))) (answered note seat line))
+  by_role false quit longer request = answer
+  by_role true true longer request = λ all. (reported.0, tt, tt)
+  by_role true false true request = answer
+  by_role true false false request = by_request request
 
-reported-said : (depth : ℕ) → TellsLines (said depth)
-reported-said zero = λ note seat line free reported. reported-line None note seat line tt free reported
-reported-said (suc depth) = λ note seat line free reported. reported-line (Some (said depth)) note seat line (reported-said depth) free reported
+-- ---- whatever a desk is told
 
-reported-first : (seat : Seat) (names : List (List ℕ)) → IsReported-at seat → IsReportedAfter (first_said seat names)
-reported-first seat [] reported = λ all. reported
-reported-first seat (name ∷ more) reported =
-    reported-then (file_said (said 15) (codes "named on the command line") seat name (text_at seat name)) (λ next. first_said next more)
-    (reported-file_said (said 15) (codes "named on the command line") seat name (text_at seat name) (reported-said 15) reported)
-    (λ next reported-next. reported-first next more reported-next)
+reported-next : (seat : Seat) (file : Opened) (left : List (List ℕ)) → AllByRecursion IsLine left → IsReported-at seat → IsReportedAfter (next_said seat file left)
+reported-next seat file [] free reported = λ all. (reported.0, files-get seat.outer (length seat.outer - 1) reported.2, files-take (length seat.outer - 1) seat.outer reported.2)
+reported-next seat file (line ∷ more) free reported =
+    let next : Opened = record file { number = file.number + 1; left = more } in
+    reported-line (record seat { inner = Some next }) line free.0 (reported.0, free.1, reported.2)
 
-reported-on : (seat : Seat) (lines : List (List ℕ)) → AllByRecursion IsLine lines → IsReported-at seat → AreSayable (handed_to seat lines) → IsReported-at (after_said desk_speech seat lines)
-unfolding desk_speech
-reported-on seat [] free reported all = reported
-reported-on seat (line ∷ more) free reported all =
-    let next : Said = said 16 [] seat line in
-    reported-on next.seat more free.1 (reported-said 16 [] seat line free.0 reported (first-sayable next.handed (handed_to next.seat more) all)) (rest-sayable next.handed (handed_to next.seat more) all)
+reported-onward : (seat : Seat) (inner : Option Opened) → IsFreeInner inner → IsReported-at seat → IsReportedAfter (onward_said seat inner)
+reported-onward seat (Some file) free reported = reported-next seat file file.left free reported
+reported-onward seat None free reported = λ all. reported
 
-pub reported_in_session : (manner : Manner) (names : List (List ℕ)) (drawer : Drawer) (typed : List ℕ) → AllByRecursion IsSayable (session_handed manner names drawer typed)
-    → IsReportedByTranscript script_language opening_state (session_end manner names drawer typed).recorded
-reported_in_session manner names drawer typed all =
-    let seat : Seat = taken_seat manner (Some drawer) in
-    let first : Said = first_said seat names in
-    let at_first : IsReported-at first.seat = reported-first seat names (IsReported-none script_language opening_state) (first-sayable first.handed (handed_to first.seat (lines typed)) all) in
-    IsReported-all script_language opening_state (session_end manner names drawer typed).recorded
-    (reported-on first.seat (lines typed) (lines_are_lines typed) at_first (rest-sayable first.handed (handed_to first.seat (lines typed)) all))
+reported-found : (seat : Seat) (wanted : Option Wanted) (read : Result (List ℕ) FileTrouble) → IsReported-at seat → IsReportedAfter (found_said seat wanted read)
+reported-found seat (Some wanted) read reported = by_work (is_keep wanted.work) where
+  by_work : (keep : Bool) → IsReportedAfter (cond keep (nothing seat) (used_or_refused wanted.work wanted.note (record seat { wanted = None }) wanted.name read))
+  by_work true = λ all. reported
+  by_work false = reported-file wanted.work wanted.note (record seat { wanted = None }) wanted.name read reported
+reported-found seat None read reported = λ all. reported
+
+reported-kept_said : (seat : Seat) (wanted : Option Wanted) (kept : Bool) → IsReported-at seat → IsReportedAfter (kept_said seat wanted kept)
+reported-kept_said seat (Some wanted) kept reported = by_work (is_keep wanted.work) where
+  by_work : (keep : Bool) → IsReportedAfter (cond keep (kept_or_refused wanted.note (record seat { wanted = None }) wanted.name kept) (nothing seat))
+  by_work true = reported-kept wanted.note (record seat { wanted = None }) wanted.name kept reported
+  by_work false = λ all. reported
+reported-kept_said seat None kept reported = λ all. reported
+
+reported-told : (seat : Seat) (told : Told) → IsTyped told → IsReported-at seat → IsReportedAfter (said_to seat told)
+unfolding said_to
+reported-told seat (Typed line) free reported = by_role (takes_lines seat) where
+  by_role : (takes : Bool) → IsReportedAfter (cond takes (line_said seat line) (nothing seat))
+  by_role true = reported-line seat line free reported
+  by_role false = λ all. reported
+reported-told seat (First name) free reported = by_role (takes_lines seat) where
+  by_role : (takes : Bool) → IsReportedAfter (cond takes (first_named seat name) (nothing seat))
+  by_role true = λ all. reported
+  by_role false = λ all. reported
+reported-told seat Onward free reported = by_role (is_some seat.wanted) where
+  by_role : (waits : Bool) → IsReportedAfter (cond waits (nothing seat) (onward_said seat seat.inner))
+  by_role true = λ all. reported
+  by_role false = reported-onward seat seat.inner reported.1 reported
+reported-told seat (Found read) free reported = reported-found seat seat.wanted read reported
+reported-told seat (Kept kept) free reported = reported-kept_said seat seat.wanted kept reported
+
+reported-all_told : (seat : Seat) (told : List Told) → AllByRecursion IsTyped told → IsReported-at seat → IsReportedAfter (all_said seat told)
+reported-all_told seat [] free reported = λ all. reported
+reported-all_told seat (first ∷ more) free reported =
+    reported-then (said_to seat first) (λ next. all_said next more) (reported-told seat first free.0 reported)
+    (λ next reported-next. reported-all_told next more free.1 reported-next)
+
+pub reported_in_session : (manner : Manner) (told : List Told) → AllByRecursion IsTyped told → AllByRecursion IsSayable (all_said (taken_seat manner) told).handed
+    → IsReportedByTranscript script_language opening_state (all_said (taken_seat manner) told).seat.recorded
+reported_in_session manner told typed all =
+    IsReported-all script_language opening_state (all_said (taken_seat manner) told).seat.recorded
+    (reported-all_told (taken_seat manner) told typed (IsReported-none script_language opening_state, tt, tt) all).0

@@ -1,9 +1,11 @@
 -- Part of the public promise: the monitor at a desk, where lines are typed until `quit`: bare, after
 -- prompts, or each shown above its reply. A line may name a file. The lines of a file count as if
 -- they were typed there, and they may name files in turn, up to 16 within one another.
-use Rattle.std.specs.Prelude.{ℕ, zero, suc, ◌+◌, ◌==◌, not, ◌&&◌, Bool, true, false}
+-- A desk reads nothing and writes nothing. It says what it wishes for, it is told what came of
+-- that, and the text that is to be written then is a value.
+use Rattle.std.specs.Prelude.{ℕ, ◌+◌, ◌-◌, ◌==◌, not, ◌&&◌, ◌||◌, Bool, true, false}
 use Rattle.std.specs.Prelude.{if◌then◌else◌, is_none, is_some, nat_le, Option, Some, None}
-use Rattle.std.specs.Prelude.{option_map, List, [], ◌∷◌, ◌++◌, codes, length}
+use Rattle.std.specs.Prelude.{List, [], ◌∷◌, ◌++◌, codes, length, slice_get, take}
 use Rattle.std.specs.Prelude.{Result, Ok, Err}
 use Rattle.std.specs.List.{list_any}
 use Rattle.std.specs.Option.{option_map_or}
@@ -13,16 +15,14 @@ use Rattle.lgp_word.specs.Digits.{address_digits}
 use Rattle.lgp_flexo.specs.TapeText.{written_tape}
 use Rattle.lgp_stream.specs.KeptLine.{kept_of}
 use Rattle.lgp_stream.specs.Language.{is_question}
-use Rattle.lgp_stream.specs.Speech.{Speech, after_said, text_said}
-use Rattle.lgp_stream.specs.Transcript.{Recorded, untouched}
+use Rattle.lgp_stream.specs.Transcript.{IsLine, Recorded, untouched}
 use Rattle.lgp_text.specs.PanelWords.{status_text}
 use Rattle.lgp_script.specs.LabState.{LabState, opening_state}
 use Rattle.lgp_monitor.specs.FileTexts.{answer_to_dump, answer_to_tape}
 use Rattle.lgp_fields.specs.declared.records.RecordForm.{RecordForm}
 use Rattle.lgp_fields.specs.declared.records.RecordForm.TheVariants.{Lines, Objects}
 use Rattle.lgp_monitor.specs.Monitor.{monitor_language, panel_at, reply_in}
-use Rattle.lgp_desk.specs.FileForms.{dump_in, tape_of, text_made}
-use Rattle.lgp_desk.specs.Files.{Drawer, takes, text_in, with_file}
+use Rattle.lgp_desk.specs.FileForms.{dump_in, tape_of}
 use Rattle.lgp_desk.specs.Json.{json_answer, json_own}
 use Rattle.lgp_desk.specs.Requests.{is_quit, request_of}
 use Rattle.lgp_desk.specs.Troubles.{kept_text, line_note, trouble_text}
@@ -30,18 +30,36 @@ use Rattle.lgp_desk.specs.declared.files.FileTrouble.{FileTrouble}
 use Rattle.lgp_desk.specs.declared.files.FileTrouble.TheVariants as troubles
 use Rattle.lgp_desk.specs.declared.request.DrumForm.{DrumForm}
 use Rattle.lgp_desk.specs.declared.request.DrumForm.TheVariants as drums
-use Rattle.lgp_desk.specs.declared.request.Made.{Made}
 use Rattle.lgp_desk.specs.declared.request.Work.{Work}
 use Rattle.lgp_desk.specs.declared.request.Work.TheVariants as works
+use Rattle.lgp_desk.specs.declared.wish.Wish.{Wish}
+use Rattle.lgp_desk.specs.declared.wish.Wish.TheVariants as wishes
 use Rattle.lgp_desk.specs.declared.writing.Manner.{Manner}
 use Rattle.lgp_desk.specs.declared.writing.Manner.TheVariants.{Prompting, Echoing, Json}
 
--- the state of the monitor, how replies are written, the files, where they are known, and whether
--- `quit` was typed
+-- a file whose lines are typed: its name, the number of the line that was typed last, counted from
+-- 1, and the lines that are left
+pub record Opened : Type 0 where
+  pub name : List ℕ
+  pub number : ℕ
+  pub left : List (List ℕ)
+
+-- a file that is wished for: what it is for, where the line comes from that names it, and its name
+pub record Wanted : Type 0 where
+  pub work : Work
+  pub note : List ℕ
+  pub name : List ℕ
+
+-- the state of the monitor, how replies are written, the file whose lines are typed, those in which
+-- it was named, the latest last, the file that is wished for, whether a reply was a refusal, and
+-- whether `quit` was typed
 pub record Seat : Type 0 where
   pub recorded : Recorded LabState
   pub manner : Manner
-  pub drawer : Option Drawer
+  pub inner : Option Opened
+  pub outer : List Opened
+  pub wanted : Option Wanted
+  pub has_refused : Bool
   pub has_left : Bool
 
 -- what the monitor is handed: a line, a dump, or the name and the text of a tape
@@ -50,22 +68,28 @@ pub data Handed : Type 0 where
   Dump : List ℕ → Handed
   Tape : List ℕ → List ℕ → Handed
 
--- texts that are written one after another, what the monitor was handed for them, and the
--- state of the desk after them
+-- the text that is to be written, what the monitor was handed for it, and the desk after it
 pub record Said : Type 0 where
-  pub texts : List (List ℕ)
+  pub text : List ℕ
   pub handed : List Handed
   pub seat : Seat
 
 abbrev pub nothing : Seat → Said
-nothing seat = record { texts = []; handed = []; seat = seat }
+nothing seat = record { text = []; handed = []; seat = seat }
 
 abbrev pub and_then : Said → (Seat → Said) → Said
 and_then first more = record {
-  texts = first.texts ++ (more first.seat).texts;
+  text = first.text ++ (more first.seat).text;
   handed = first.handed ++ (more first.seat).handed;
   seat = (more first.seat).seat;
 }
+
+-- a text is written, which is a refusal where it begins with a question mark
+abbrev pub marked : Seat → List ℕ → Seat
+marked seat text = record seat { has_refused = seat.has_refused || is_question text }
+
+abbrev pub saying : List ℕ → List Handed → Seat → Said
+saying text handed seat = record { text = text; handed = handed; seat = marked seat text }
 
 -- ---- what is written for a reply
 
@@ -127,11 +151,8 @@ form_in manner = Lines
 abbrev pub answered : List ℕ → Seat → List ℕ → Said
 answered note seat line =
     let reply = reply_in seat.recorded (form_in seat.manner) line in
-    record {
-      texts = written seat.manner (kept_of line).front (kept_of line).longer note reply ∷ [];
-      handed = Line line ∷ [];
-      seat = record seat { recorded = monitor_language.after seat.recorded line };
-    }
+    saying (written seat.manner (kept_of line).front (kept_of line).longer note reply)
+    (Line line ∷ []) (record seat { recorded = monitor_language.after seat.recorded line })
 
 abbrev pub all_answered : List ℕ → Seat → List (List ℕ) → Said
 all_answered note seat [] = nothing seat
@@ -140,8 +161,7 @@ all_answered note seat (line ∷ more) =
 
 -- a reply of the desk itself
 abbrev pub own : List ℕ → Seat → List ℕ → Said
-own note seat reply =
-    record { texts = written_own seat.manner note reply ∷ []; handed = []; seat = seat }
+own note seat reply = saying (written_own seat.manner note reply) [] seat
 
 abbrev pub refused : List ℕ → Seat → List ℕ → FileTrouble → Said
 refused note seat name trouble = own note seat (trouble_text name trouble)
@@ -154,12 +174,8 @@ restore_word drums.Simh = codes "restore-simh "
 unfoldable pub restored : DrumForm → List ℕ → Seat → List ℕ → List ℕ → Said
 restored form note seat name dump =
     let answer = answer_to_dump seat.recorded dump in
-    record {
-      texts = written seat.manner (restore_word form ++ name) false (within name note)
-          answer.reply ∷ [];
-      handed = Dump dump ∷ [];
-      seat = record seat { recorded = answer.after };
-    }
+    saying (written seat.manner (restore_word form ++ name) false (within name note) answer.reply)
+    (Dump dump ∷ []) (record seat { recorded = answer.after })
 
 -- how many bytes of a tape's text a line has room for, after `mount` and its space
 abbrev pub mount_limit : ℕ
@@ -169,12 +185,8 @@ mount_limit = 4090
 unfoldable pub long_tape : List ℕ → Seat → List ℕ → List ℕ → Said
 long_tape note seat name text =
     let answer = answer_to_tape seat.recorded name text in
-    record {
-      texts = written seat.manner (codes "tape " ++ name) false (within name note)
-          answer.reply ∷ [];
-      handed = Tape name text ∷ [];
-      seat = record seat { recorded = answer.after };
-    }
+    saying (written seat.manner (codes "tape " ++ name) false (within name note) answer.reply)
+    (Tape name text ∷ []) (record seat { recorded = answer.after })
 
 unfoldable pub mounted : List ℕ → Seat → List ℕ → List ℕ → Said
 mounted note seat name text =
@@ -198,161 +210,176 @@ source_said note seat name text =
     then refused note seat name troubles.HasPoint
     else all_answered (within name note) seat (codes "source" ∷ (lines text ++ codes "." ∷ []))
 
--- something is kept under a name
-unfoldable pub saved : Made → List ℕ → Seat → List ℕ → Said
-saved made note seat name =
-    let text = text_made made seat.recorded.state.debugger.state in
-    if option_map_or (λ drawer. takes drawer name) seat.drawer false
-    then own note
-    (record seat { drawer = option_map (λ drawer. with_file drawer name text) seat.drawer })
-    (kept_text name)
-    else refused note seat name troubles.NotWritten
+-- the lines of a file are typed from now on
+abbrev pub with_file : Seat → List ℕ → List ℕ → Seat
+with_file seat name text = record seat {
+  inner = Some (record { name = name; number = 0; left = lines text });
+  outer = option_map_or (λ file. seat.outer ++ file ∷ []) seat.inner seat.outer;
+}
 
--- what a file holds, or why it is refused
-abbrev pub text_at : Seat → List ℕ → Result (List ℕ) FileTrouble
-text_at seat name =
-    option_map_or (λ drawer. text_in drawer name) seat.drawer (Err troubles.NotOpened)
+-- the file whose lines are typed has none left
+abbrev pub without_file : Seat → Seat
+without_file seat = record seat {
+  inner = slice_get seat.outer (length seat.outer - 1);
+  outer = take (length seat.outer - 1) seat.outer;
+}
 
 -- a text of a file, used as its work says
 abbrev pub used : Work → List ℕ → Seat → List ℕ → List ℕ → Said
+used works.Lines note seat name text = nothing (with_file seat name text)
 used works.Source note seat name text = source_said note seat name text
 used (works.Tape form) note seat name text = tape_or_refused note seat name (tape_of form text)
 used (works.Restore form) note seat name text =
     restored_or_refused form note seat name (dump_in form text)
-used work note seat name text = nothing seat
+used (works.Keep made) note seat name text = nothing seat
 
 abbrev pub used_or_refused : Work → List ℕ → Seat → List ℕ → Result (List ℕ) FileTrouble → Said
 used_or_refused work note seat name (Ok text) = used work note seat name text
 used_or_refused work note seat name (Err trouble) = refused note seat name trouble
 
--- a line that names a file; the lines of a file are typed as the first argument says
-abbrev pub worked : (List ℕ → Said) → List ℕ → Seat → Work → List ℕ → Said
-worked typed note seat works.Lines name = typed name
-worked typed note seat (works.Keep made) name = saved made note seat name
-worked typed note seat work name = used_or_refused work note seat name (text_at seat name)
+-- something was kept under a name, or could not be
+abbrev pub kept_or_refused : List ℕ → Seat → List ℕ → Bool → Said
+kept_or_refused note seat name true = own note seat (kept_text name)
+kept_or_refused note seat name false = refused note seat name troubles.NotWritten
 
--- a line leaves the desk
+-- ---- a line
+
+-- where a line comes from: nothing is said of one that is typed
+abbrev pub note_at : Seat → List ℕ
+note_at seat = option_map_or (λ file. line_note file.number file.name) seat.inner []
+
+-- whether as many files are open as can be, each named in the one before
+abbrev pub is_deep : Seat → Bool
+is_deep seat = is_some seat.inner && nat_le 15 (length seat.outer)
+
+-- a line names a file
+abbrev pub wanting : Work → List ℕ → Seat → List ℕ → Said
+wanting work note seat name =
+    nothing (record seat { wanted = Some (record { work = work; note = note; name = name }) })
+
+abbrev pub asked : Work → List ℕ → Seat → List ℕ → Said
+asked works.Lines note seat name =
+    if is_deep seat then refused note seat name troubles.TooDeep
+    else wanting works.Lines note seat name
+asked work note seat name = wanting work note seat name
+
+-- a line leaves the desk, and all files
 abbrev pub left_by : Seat → List ℕ → Said
 left_by seat line = record {
-  texts = echo_in seat.manner (echo_of (kept_of line).front (kept_of line).longer []) ∷ [];
+  text = echo_in seat.manner (echo_of (kept_of line).front (kept_of line).longer []);
   handed = [];
-  seat = record seat { has_left = true };
+  seat = record seat { inner = None; outer = []; has_left = true };
 }
 
 -- a line where no source is open
-abbrev pub command_said : (List ℕ → Said) → List ℕ → Seat → List ℕ → Said
-command_said typed note seat line =
+abbrev pub command_said : List ℕ → Seat → List ℕ → Said
+command_said note seat line =
     if is_quit (kept_of line) then left_by seat line
     else (if (kept_of line).longer then answered note seat line
-    else option_map_or (λ request. worked typed note seat request.0 request.1)
+    else option_map_or (λ request. asked request.0 note seat request.1)
     (request_of (kept_of line).front) (answered note seat line))
 
--- a line; after `quit` none is heard, and in an open source each is the source's
-abbrev pub line_said : (List ℕ → Said) → List ℕ → Seat → List ℕ → Said
-line_said typed note seat line =
-    if seat.has_left then nothing seat
-    else (if is_none seat.recorded.state.opened then command_said typed note seat line
-    else answered note seat line)
-
--- nothing more of a file: an empty text
-abbrev pub file_ended : Seat → Said
-file_ended seat = record { texts = [] ∷ []; handed = []; seat = seat }
-
--- the lines of a file, from the one of a number on, each as the first argument says
-abbrev pub lines_said : (List ℕ → Seat → List ℕ → Said) → List ℕ → ℕ → Seat → List (List ℕ) → Said
-lines_said say name number seat [] = file_ended seat
-lines_said say name number seat (line ∷ more) =
-    and_then (say (line_note number name) seat line)
-    (λ next. lines_said say name (number + 1) next more)
-
-abbrev pub file_said : (List ℕ → Seat → List ℕ → Said) → List ℕ → Seat → List ℕ
-    → Result (List ℕ) FileTrouble → Said
-file_said say note seat name (Ok text) = lines_said say name 1 seat (lines text)
-file_said say note seat name (Err trouble) = refused note seat name trouble
-
--- a file is typed line by line as the first argument says; where there is none, too many are open
-abbrev pub typed_by : Option (List ℕ → Seat → List ℕ → Said) → List ℕ → Seat → List ℕ → Said
-typed_by None note seat name = refused note seat name troubles.TooDeep
-typed_by (Some say) note seat name = file_said say note seat name (text_at seat name)
-
--- a line, where this many files more may be opened within one another
-abbrev pub said : ℕ → List ℕ → Seat → List ℕ → Said
-said zero note seat line = line_said (typed_by None note seat) note seat line
-said (suc depth) note seat line = line_said (typed_by (Some (said depth)) note seat) note seat line
-
--- files whose lines come before those that are typed
-abbrev pub first_said : Seat → List (List ℕ) → Said
-first_said seat [] = nothing seat
-first_said seat (name ∷ more) =
-    and_then
-    (file_said (said 15) (codes "named on the command line") seat name (text_at seat name))
-    (λ next. first_said next more)
+-- a line that is typed, or one of the file whose lines are; in an open source each is the source's
+abbrev pub line_said : Seat → List ℕ → Said
+line_said seat line =
+    if is_none seat.recorded.state.opened then command_said (note_at seat) seat line
+    else answered (note_at seat) seat line
 
 -- ---- the desk
 
--- the prompt in front of the next line
-abbrev pub prompt_texts : Seat → List (List ℕ)
-prompt_texts seat =
-    if seat.has_left then [] else prompt_in seat.manner (prompt_at seat.recorded) ∷ []
-
--- what is said to a typed line, and to the end
-abbrev pub typed_said : Seat → List ℕ → List (List ℕ)
-typed_said seat line =
-    if seat.has_left then [] else (said 16 [] seat line).texts
-    ++ prompt_texts (said 16 [] seat line).seat
-
-abbrev pub end_said : Seat → List (List ℕ)
-end_said seat =
-    if seat.has_left then []
-    else written_last seat.manner (monitor_language.closing seat.recorded) ∷ []
-
-unfoldable pub desk_speech : Speech Seat
-desk_speech = record {
-  said = typed_said;
-  after = λ seat line. (said 16 [] seat line).seat;
-  closing = end_said;
-  known = λ seat. is_some seat.drawer;
-  ended = λ seat. seat.has_left;
-}
-
--- a desk at which nothing was typed, with these files
-abbrev pub taken_seat : Manner → Option Drawer → Seat
-taken_seat manner drawer = record {
+-- a desk at which nothing was typed
+abbrev pub taken_seat : Manner → Seat
+taken_seat manner = record {
   recorded = untouched opening_state;
   manner = manner;
-  drawer = drawer;
+  inner = None;
+  outer = [];
+  wanted = None;
+  has_refused = false;
   has_left = false;
 }
 
--- what is said before the first typed line: the lines of files, and the prompt
-abbrev pub begun : Seat → List (List ℕ) → Said
-begun seat names =
-    let first = first_said seat names in
-    record first { texts = first.texts ++ prompt_texts first.seat }
+-- what it wishes for
+abbrev pub file_wish : Work → Wish
+file_wish (works.Keep made) = wishes.Keep made
+file_wish work = wishes.Read
 
--- with these names of files and these files, all that is said to a typed text
-abbrev pub session_texts : Manner → List (List ℕ) → Drawer → List ℕ → List (List ℕ)
-session_texts manner names drawer typed =
-    let first = begun (taken_seat manner (Some drawer)) names in
-    first.texts ++ text_said desk_speech first.seat typed
+abbrev pub line_wish : Seat → Wish
+line_wish seat =
+    if is_some seat.inner then wishes.Onward
+    else (if seat.has_left then wishes.Nothing else wishes.Line)
 
--- ---- what the monitor is handed in a session
+unfoldable pub wish_at : Seat → Wish
+wish_at seat = option_map_or (λ wanted. file_wish wanted.work) seat.wanted (line_wish seat)
 
--- for typed lines
-abbrev pub handed_to : Seat → List (List ℕ) → List Handed
-handed_to seat [] = []
-handed_to seat (line ∷ more) =
-    (said 16 [] seat line).handed ++ handed_to (said 16 [] seat line).seat more
+-- what it is told: a line that is typed; the name of a file whose lines come before those that are
+-- typed; to go on with the lines of a file; what the file holds that it wished for, or why it is
+-- refused; and whether what it wished to keep is kept
+pub data Told : Type 0 where
+  Typed : List ℕ → Told
+  First : List ℕ → Told
+  Onward : Told
+  Found : Result (List ℕ) FileTrouble → Told
+  Kept : Bool → Told
 
--- in a whole session, and where it leaves the desk
-abbrev pub session_handed : Manner → List (List ℕ) → Drawer → List ℕ → List Handed
-session_handed manner names drawer typed =
-    let first = begun (taken_seat manner (Some drawer)) names in
-    first.handed ++ handed_to first.seat (lines typed)
+abbrev pub first_named : Seat → List ℕ → Said
+first_named seat name = wanting works.Lines (codes "named on the command line") seat name
 
-abbrev pub session_end : Manner → List (List ℕ) → Drawer → List ℕ → Seat
-session_end manner names drawer typed =
-    after_said desk_speech (begun (taken_seat manner (Some drawer)) names).seat (lines typed)
+abbrev pub next_said : Seat → Opened → List (List ℕ) → Said
+next_said seat file [] = nothing (without_file seat)
+next_said seat file (line ∷ more) =
+    let next = record file { number = file.number + 1; left = more } in
+    line_said (record seat { inner = Some next }) line
+
+abbrev pub onward_said : Seat → Option Opened → Said
+onward_said seat (Some file) = next_said seat file file.left
+onward_said seat None = nothing seat
+
+-- whether something is to be kept in a file
+abbrev pub is_keep : Work → Bool
+is_keep (works.Keep made) = true
+is_keep work = false
+
+abbrev pub found_said : Seat → Option Wanted → Result (List ℕ) FileTrouble → Said
+found_said seat (Some wanted) read =
+    if is_keep wanted.work then nothing seat
+    else used_or_refused wanted.work wanted.note (record seat { wanted = None }) wanted.name read
+found_said seat None read = nothing seat
+
+abbrev pub kept_said : Seat → Option Wanted → Bool → Said
+kept_said seat (Some wanted) kept =
+    if is_keep wanted.work
+    then kept_or_refused wanted.note (record seat { wanted = None }) wanted.name kept
+    else nothing seat
+kept_said seat None kept = nothing seat
+
+-- whether a line can be typed
+abbrev pub takes_lines : Seat → Bool
+takes_lines seat = is_none seat.wanted && (is_none seat.inner && not seat.has_left)
+
+-- what it says then; what it has not wished for changes nothing
+unfoldable pub said_to : Seat → Told → Said
+said_to seat (Typed line) = if takes_lines seat then line_said seat line else nothing seat
+said_to seat (First name) = if takes_lines seat then first_named seat name else nothing seat
+said_to seat Onward = if is_some seat.wanted then nothing seat else onward_said seat seat.inner
+said_to seat (Found read) = found_said seat seat.wanted read
+said_to seat (Kept kept) = kept_said seat seat.wanted kept
+
+-- what it says where no line is typed any more; then nothing more is to be told it
+unfoldable pub closing_text : Seat → List ℕ
+closing_text seat =
+    if takes_lines seat then written_last seat.manner (monitor_language.closing seat.recorded)
+    else []
+
+-- what it says to all that it is told, one after another
+abbrev pub all_said : Seat → List Told → Said
+all_said seat [] = nothing seat
+all_said seat (told ∷ more) = and_then (said_to seat told) (λ next. all_said next more)
+
+-- a typed line is one: it has no line feed
+abbrev pub IsTyped : Told → Type 0
+IsTyped (Typed line) = IsLine line
+IsTyped told = Unit {0}
 
 -- what a script can say: each line, and each dump; of a tape for whose text no line has room, the
 -- transcript has the name alone

@@ -1,48 +1,211 @@
 -- Part of the public promise: what the monitor's program does for the words of its command line:
--- what it writes where, and its status.
-use Rattle.std.specs.Prelude.{◌≡◌, ◌⊎◌, ℕ, Bool, if◌then◌else◌, Option, Some, List, [], IfSome}
-use Rattle.std.specs.Prelude.{Result, Ok, Err}
-use Rattle.std.specs.List.{concat}
+-- what it writes where, and its status. What is typed, and what files hold, is what a desk is told.
+use Rattle.std.specs.Prelude.{◌≡◌, ◌⊎◌, ℕ, Bool, true, false, if◌then◌else◌, Option, Some, None}
+use Rattle.std.specs.Prelude.{IfSome}
+use Rattle.std.specs.Prelude.{List, [], ◌∷◌, ◌++◌, ◌||◌, Result, Ok, Err}
 use Rattle.std.specs.Io.KnownBytes.{Appends}
+use Rattle.std.specs.Str.Lines.{lines}
 use Rattle.clap.specs.Words.{fault_of}
 use Rattle.lgp_task.specs.CommandLine.{monitor_line}
 use Rattle.lgp_task.specs.Task.{IsFaultOn, SessionTask, session_for}
 use Rattle.lgp_task.specs.declared.task.TaskFault.{TaskFault}
-use Rattle.lgp_stream.specs.Language.{HasCause, question_count}
-use Rattle.lgp_stream.specs.Speech.{StandsSaid}
+use Rattle.lgp_stream.specs.Language.{HasCause, StandsOf, is_question}
+use Rattle.lgp_stream.specs.Transcript.{IsLine}
 use Rattle.lgp_stream.specs.declared.stream.StreamFault.{StreamFault}
+use Rattle.lgp_stream.specs.declared.stream.StreamFault.TheVariants.{Read}
 use Rattle.lgp_lab.specs.Tasks.{Failures, IsRefused, answered_status, broken_status}
-use Rattle.lgp_desk.specs.Desk.{begun, desk_speech, session_texts, taken_seat}
-use Rattle.lgp_desk.specs.Files.{Drawer}
+use Rattle.lgp_desk.specs.Desk.{First, Found, Kept, Onward, Seat, Told, Typed, Wanted}
+use Rattle.lgp_desk.specs.Desk.{all_said, closing_text, prompt_at, prompt_in, said_to, taken_seat}
+use Rattle.lgp_desk.specs.Desk.{wish_at}
+use Rattle.lgp_desk.specs.declared.wish.Wish.{Wish}
+use Rattle.lgp_desk.specs.declared.wish.Wish.TheVariants as wishes
 use Rattle.lgp_desk.specs.declared.writing.Manner.{Manner}
 use Rattle.lgp_desk.specs.declared.writing.Manner.TheVariants.{Echoing, Json}
 
--- the status for what became of typed lines
-abbrev pub session_status : Result ℕ StreamFault → ℕ
-session_status (Ok count) = answered_status count
+-- ---- what a desk is told in a session
+
+-- whether it wishes to be told this
+abbrev pub is_wished : Wish → Told → Bool
+is_wished wishes.Line (Typed line) = true
+is_wished wishes.Line (First name) = true
+is_wished wishes.Onward Onward = true
+is_wished wishes.Read (Found read) = true
+is_wished (wishes.Keep made) (Kept kept) = true
+is_wished wish told = false
+
+-- what files hold, by their names, where it is known
+abbrev pub Known : Type 0
+Known = List ℕ → Option (List ℕ)
+
+-- what was found in a file is what that file holds, where this is known
+abbrev pub IsHeldBy : Known → Told → Option Wanted → Type 0
+IsHeldBy known (Found (Ok text)) (Some wanted) = IfSome (known wanted.name) (λ held. text ≡ held)
+IsHeldBy known told wanted = Unit {0}
+
+-- it is told one thing after another: each is what it wishes for
+abbrev pub AreWished : Known → Seat → List Told → Type 0
+AreWished known seat [] = Unit {0}
+AreWished known seat (told ∷ more) =
+    (is_wished (wish_at seat) told ≡ true) × IsHeldBy known told seat.wanted
+    × AreWished known (said_to seat told).seat more
+
+-- the lines that were typed
+abbrev pub lines_in : List Told → List (List ℕ)
+lines_in [] = []
+lines_in (Typed line ∷ more) = line ∷ lines_in more
+lines_in (told ∷ more) = lines_in more
+
+-- it is told names of files in their order, and no line before all of them; some may be left
+abbrev pub HasNames : List (List ℕ) → List Told → List (List ℕ) → Type 0
+HasNames names [] left = left ≡ names
+HasNames names (First name ∷ more) left =
+    (rest : List (List ℕ)) × (names ≡ name ∷ rest) × HasNames rest more left
+HasNames names (Typed line ∷ more) left = (names ≡ []) × HasNames names more left
+HasNames names (told ∷ more) left = HasNames names more left
+
+-- ---- what is written in a session
+
+-- the prompt, which is in front of a typed line and of the end of these lines
+abbrev pub prompt_of : Seat → List ℕ
+prompt_of seat = prompt_in seat.manner (prompt_at seat.recorded)
+
+abbrev pub prompt_before : Seat → Told → List ℕ
+prompt_before seat (Typed line) = prompt_of seat
+prompt_before seat told = []
+
+abbrev pub written_for : Seat → List Told → List ℕ
+written_for seat [] = []
+written_for seat (told ∷ more) =
+    prompt_before seat told
+    ++ ((said_to seat told).text ++ written_for (said_to seat told).seat more)
+
+-- a desk was told all this, which left it so, and exactly what is to be written for it was written
+pub record IsTold (known : Known) (before after : Seat) (w₀ w : Option (List ℕ))
+    (told : List Told) : Type 0 where
+  pub wished : AreWished known before told
+  pub seat : after ≡ (all_said before told).seat
+  pub written : Appends w₀ w (written_for before told)
+
+-- at the end: after `quit` nothing; otherwise the prompt and what the desk says to the end
+abbrev pub ending : Bool → Seat → List ℕ
+ending true seat = prompt_of seat ++ closing_text seat
+ending false seat = []
+
+-- whether a reply was a refusal then
+abbrev pub refused_at : Bool → Seat → Bool
+refused_at true seat = seat.has_refused || is_question (closing_text seat)
+refused_at false seat = seat.has_refused
+
+-- ---- a session that is broken off
+
+-- the first of a list
+abbrev pub IsFirstOf : {T : Type 0} → List T → List T → Type 0
+IsFirstOf {T} first all = (rest : List T) × (all ≡ first ++ rest)
+
+-- what comes next at a desk, where there is something that it is told next, or where there is none:
+-- the prompt, and the text for that, or for the end
+abbrev pub next_prompt : Seat → Option Told → List ℕ
+next_prompt seat (Some told) = prompt_before seat told
+next_prompt seat None = prompt_of seat
+
+abbrev pub next_text : Seat → Option Told → List ℕ
+next_text seat (Some told) = (said_to seat told).text
+next_text seat None = closing_text seat
+
+-- a text that comes next, and what is written in front of it: the prompt, or the text after it
+abbrev pub IsNext : Seat → Option Told → List ℕ → List ℕ → Type 0
+IsNext seat next front text =
+    ((front ≡ []) × (text ≡ next_prompt seat next))
+    ⊎ ((front ≡ next_prompt seat next) × (text ≡ next_text seat next))
+
+abbrev pub with_next : List Told → Option Told → List Told
+with_next told (Some next) = told ++ next ∷ []
+with_next told None = told
+
+-- all lines of a text were typed up to a read that failed: after them there is a piece without a
+-- line feed, and what the reader has left
+abbrev pub IsTypedUpTo : List ℕ → Option (List ℕ) → List Told → Type 0
+IsTypedUpTo text left told =
+    (piece : List ℕ) × IsLine piece × (more : List ℕ) × (left ≡ Some more)
+    × (lines text ≡ lines_in told ++ lines (piece ++ more))
+
+-- a read failed after the prompt, where a line is to be typed
+pub record IsUnread (seat : Seat) (input left : Option (List ℕ)) (told : List Told)
+    (next : Option Told) (front : List ℕ) : Type 0 where
+  pub none : next ≡ None
+  pub prompted : front ≡ prompt_of seat
+  pub typed : IfSome input (λ text. IsTypedUpTo text left told)
+
+-- a desk was told so much, and exactly what is to be written for it was written. A fault broke the
+-- session off in a text that comes next: nothing of it was written, or as many bytes as the fault
+-- counts. The names came first, and then the first of the lines.
+pub record IsBrokenOff (known : Known) (before : Seat) (names : List (List ℕ))
+    (input left : Option (List ℕ)) (fault : StreamFault) (w₀ w : Option (List ℕ)) : Type 0 where
+  pub told : List Told
+  pub next : Option Told
+  pub front : List ℕ
+  pub text : List ℕ
+  pub between : Option (List ℕ)
+  pub wished : AreWished known before (with_next told next)
+  pub is_next : IsNext (all_said before told).seat next front text
+  pub written : Appends w₀ between (written_for before told ++ front)
+  pub stands : StandsOf text fault between w
+  pub read : fault ≡ Read → IsUnread (all_said before told).seat input left told next front
+  pub names_left : List (List ℕ)
+  pub names_told : HasNames names (with_next told next) names_left
+  pub typed : IfSome input (λ text. IsFirstOf (lines_in (with_next told next)) (lines text))
+
+-- ---- a session
+
+-- the lines of a text were typed: all of them where their end was reached
+abbrev pub IsTypedOf : List ℕ → List Told → Bool → Type 0
+IsTypedOf text told closed =
+    IsFirstOf (lines_in told) (lines text) × (closed ≡ true → lines_in told ≡ lines text)
+
+-- what a desk wishes for at the end
+abbrev pub last_wish : Bool → Wish
+last_wish true = wishes.Line
+last_wish false = wishes.Nothing
+
+-- a session: the desk was told the names, then what is typed, and between them whatever files hold,
+-- until the lines had an end or `quit` was typed
+pub record IsSession (known : Known) (before : Seat) (names : List (List ℕ))
+    (input : Option (List ℕ)) (refused : Bool) (w₀ w : Option (List ℕ)) : Type 0 where
+  pub told : List Told
+  pub seat : Seat
+  pub between : Option (List ℕ)
+  pub closed : Bool
+  pub is_told : IsTold known before seat w₀ between told
+  pub ended : wish_at seat ≡ last_wish closed
+  pub written : Appends between w (ending closed seat)
+  pub refused_is : refused ≡ refused_at closed seat
+  pub names_left : List (List ℕ)
+  pub names_told : HasNames names told names_left
+  pub names_all : closed ≡ true → names_left ≡ []
+  pub typed : IfSome input (λ text. IsTypedOf text told closed)
+
+-- the status of a session that came to its end, by whether a reply was a refusal, and of one that
+-- was broken off
+abbrev pub session_status : Result Bool StreamFault → ℕ
+session_status (Ok refused) = answered_status (if refused then 1 else 0)
 session_status (Err fault) = broken_status fault
 
--- how replies are written, the files whose lines come first, the files, and what is typed; where
--- files or input are not known, nothing is said of what is written
-module _ (manner : Manner) (names : List (List ℕ)) (files : Option Drawer)
-    (input : Option (List ℕ)) where
-  -- what became of the lines: they were answered to their end, or a fault broke the work off, and
-  -- then a read or a write has failed, as the fault says, or memory was refused
-  abbrev pub HasAnswered : Failures → Result ℕ StreamFault → Option (List ℕ) → Option (List ℕ)
+module _ (known : Known) (manner : Manner) (names : List (List ℕ))
+    (input left : Option (List ℕ)) where
+  -- what became of it; or a fault broke it off, and then a read or a write has failed, as the fault
+  -- says, or memory was refused
+  abbrev pub HasAnswered : Failures → Result Bool StreamFault → Option (List ℕ) → Option (List ℕ)
       → Type 0
-  HasAnswered failures (Ok count) w₀ w =
-      IfSome files (λ drawer. IfSome input (λ typed.
-      Appends w₀ w (concat (session_texts manner names drawer typed))
-      × (count ≡ question_count (session_texts manner names drawer typed))))
-  HasAnswered failures (Err fault) w₀ w = HasCause fault failures.read failures.write
-      × IfSome files (λ drawer. IfSome input (λ typed. (left : Option (List ℕ))
-      × StandsSaid desk_speech (begun (taken_seat manner (Some drawer)) names).texts
-      (begun (taken_seat manner (Some drawer)) names).seat fault typed left w₀ w))
+  HasAnswered failures (Ok refused) w₀ w =
+      IsSession known (taken_seat manner) names input refused w₀ w
+  HasAnswered failures (Err fault) w₀ w =
+      HasCause fault failures.read failures.write
+      × IsBrokenOff known (taken_seat manner) names input left fault w₀ w
 
   -- a session, with the status for it
   abbrev pub IsHeld : Failures → ℕ → Option (List ℕ) → Option (List ℕ) → Type 0
   IsHeld failures status w₀ w =
-      (outcome : Result ℕ StreamFault) × HasAnswered failures outcome w₀ w
+      (outcome : Result Bool StreamFault) × HasAnswered failures outcome w₀ w
       × (status ≡ session_status outcome)
 
 -- how replies are written: as JSON or each line above its reply where the task says so
@@ -52,13 +215,13 @@ session_manner manner task =
 
 -- the words of the command line ask for a session, which is held without a message; or they are
 -- refused
-abbrev pub IsAsked : Type 0 → Manner → List (List ℕ) → Option Drawer
-    → Option (List ℕ) → Failures → Bool → ℕ → Option (List ℕ) → Option (List ℕ)
-    → Option (List ℕ) → Option (List ℕ) → Type 0
-IsAsked A manner words files input failures m_failed status w₀ w m₀ m =
+abbrev pub IsAsked : Type 0 → Known → Manner → List (List ℕ) → Option (List ℕ) → Option (List ℕ)
+    → Failures → Bool → ℕ → Option (List ℕ) → Option (List ℕ) → Option (List ℕ) → Option (List ℕ)
+    → Type 0
+IsAsked A known manner words input left failures m_failed status w₀ w m₀ m =
     ((fault_of monitor_line words ≡ [])
-    × IsHeld (session_manner manner (session_for words)) (session_for words).files files input
-    failures status w₀ w
+    × IsHeld known (session_manner manner (session_for words)) (session_for words).files input
+    left failures status w₀ w
     × (m ≡ m₀))
     ⊎ ((fault : TaskFault A) × IsFaultOn monitor_line words fault
     × IsRefused fault failures.write m_failed status w₀ w m₀ m)

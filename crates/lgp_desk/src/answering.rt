@@ -1,36 +1,206 @@
-//! Answering a text that is typed at a desk.
+//! A desk over streams: what it wishes for is done with a reader of lines, with files and with a writer.
 
-ghost use Rattle.lgp_desk.specs.Sessions.{HasAnswered};
+ghost use Rattle.std.specs.Prelude.{◌≡◌, IfErr, IfOk, List, OnOk, Some, [], ℕ, false, is_ok, option_map, true};
+ghost use Rattle.std.specs.Io.KnownBytes.{Appends};
+ghost use Rattle.lgp_stream.specs.Language.{HasCause, StandsOf};
+ghost use Rattle.lgp_stream.specs.LineReading.{left_of};
+ghost use Rattle.lgp_desk.specs.Desk.{wish_at};
+ghost use Rattle.lgp_desk.specs.Sessions.{HasAnswered, IsBrokenOff, IsSession, Known};
+ghost use Rattle.lgp_desk.specs.ServedInside.{HasFirsts, IsGranted, IsServed, IsTypedOrClosed, needs_no_file};
+ghost use Rattle.lgp_desk.specs.declared.wish.Wish.TheVariants as wishes;
 
 use crate::desk::Desk;
-use crate::files::Files;
+use crate::files::{Files, keep_file, read_file};
+use crate::wish::Wish;
 use crate::writing::Manner;
 use lgp_lab::FileName;
 use lgp_monitor::Progress;
-use lgp_stream::{Feed, Sink, StreamFault, Tally, run_speech};
-use std::alloc::Allocator;
+use lgp_stream::{Feed, LineReader, Sink, StreamFault, write_whole};
+use std::alloc::{AllocError, Allocator};
+
+/// Does what a desk wishes for: the text that is to be written; none where it wishes for a line or for nothing more.
+fn grant<A: Allocator + Copy, P: Progress, F: Files>(
+    alloc: A,
+    desk: &mut Desk<A, P>,
+    files: &F,
+) -> Result<Option<Vec<u8, A>>, AllocError>
+    ensures { IfOk result (λ said. IsGranted (F.known files.now) desk.old desk.new
+        (option_map (λ text. text.items) said)) }
+{
+    match desk.wish() {
+        Wish::Line | Wish::Nothing => Ok(None),
+        Wish::Onward => Ok(Some(desk.onward()?)),
+        Wish::Read => {
+            let read = read_file(alloc, files, desk.file_name().unwrap_or(b""))?;
+            Ok(Some(desk.found(read)?))
+        }
+        Wish::Keep(made) => {
+            let text = desk.text_made(made)?;
+            let kept = keep_file(files, desk.file_name().unwrap_or(b""), &text);
+            Ok(Some(desk.kept(kept)?))
+        }
+    }
+}
+
+/// Writes what a desk says, if there was memory for it.
+fn deliver<A: Allocator, W: Sink>(
+    writer: &mut W,
+    said: Result<Vec<u8, A>, AllocError>,
+) -> Result<(), StreamFault>
+    ensures made { OnOk result (is_ok said ≡ true) }
+    ensures whole { (text : List ℕ) → IfOk said (λ made. made.items ≡ text)
+        → OnOk result (Appends (W.contents writer.old) (W.contents writer.new) text) }
+    ensures stands { (text : List ℕ) → IfOk said (λ made. made.items ≡ text)
+        → IfErr result (λ fault.
+        StandsOf text fault (W.contents writer.old) (W.contents writer.new)) }
+    ensures cause { IfErr result (λ fault. HasCause fault false (W.failed writer.new)) }
+{
+    match said {
+        Ok(text) => write_whole(writer, &text),
+        Err(_) => Err(StreamFault::Memory),
+    }
+}
+
+/// Does what a desk wishes for, until it wishes for a line or for nothing more. Breaks off after as many steps as 64 bits count, as for
+/// want of memory.
+fn serve<A: Allocator + Copy, P: Progress, F: Files, W: Sink>(
+    alloc: A,
+    desk: &mut Desk<A, P>,
+    files: &F,
+    writer: &mut W,
+) -> Result<(), StreamFault>
+    ensures served { OnOk result (IsServed (F.known files.now) desk.old desk.new
+        (W.contents writer.old) (W.contents writer.new)) }
+    ensures broken { IfErr result (λ fault. IsBrokenOff (F.known files.now) desk.old [] (Some []) None
+        fault (W.contents writer.old) (W.contents writer.new)) }
+    ensures cause { IfErr result (λ fault. HasCause fault false (W.failed writer.new)) }
+{
+    for step in 0..u64::MAX {
+        let Ok(said) = grant(alloc, desk, files) else {
+            return Err(StreamFault::Memory);
+        };
+        match said {
+            Some(text) => write_whole(writer, &text)?,
+            None => return Ok(()),
+        }
+    }
+    Err(StreamFault::Memory)
+}
+
+/// Tells a desk the next line that is typed, after the prompt; answers whether there is one. Where there is none, writes what the desk
+/// says to the end.
+fn tell_typed<A: Allocator + Copy, P: Progress, R: Feed, W: Sink>(
+    desk: &mut Desk<A, P>,
+    lines: &mut LineReader,
+    reader: &mut R,
+    writer: &mut W,
+) -> Result<bool, StreamFault>
+    ensures typed { (known : Known) → wish_at desk.old ≡ wishes.Line
+        → IfOk result (λ is_typed. IsTypedOrClosed known is_typed desk.old desk.new
+        (left_of lines.old.unread (R.remaining reader.old))
+        (left_of lines.new.unread (R.remaining reader.new))
+        (W.contents writer.old) (W.contents writer.new)) }
+    ensures broken { (known : Known) → wish_at desk.old ≡ wishes.Line
+        → IfErr result (λ fault. IsBrokenOff known desk.old []
+        (left_of lines.old.unread (R.remaining reader.old)) (R.remaining reader.new) fault
+        (W.contents writer.old) (W.contents writer.new)) }
+    ensures cause { IfErr result (λ fault.
+        HasCause fault (R.failed reader.new) (W.failed writer.new)) }
+{
+    deliver(writer, desk.prompt())?;
+    let Ok(is_typed) = lines.next_line(reader) else {
+        return Err(StreamFault::Read);
+    };
+    if is_typed {
+        deliver(writer, desk.typed(lines.line()))?;
+    } else {
+        deliver(writer, desk.close())?;
+    }
+    Ok(is_typed)
+}
+
+/// The bytes of a name.
+fn bytes_of<B: Allocator>(name: &FileName<B>) -> &[u8]
+    ensures { result.now ≡ name.now }
+{
+    name.text().as_bytes()
+}
+
+/// Tells a desk the names of files whose lines come before those that are typed.
+fn tell_firsts<A: Allocator + Copy, B: Allocator, P: Progress, F: Files, W: Sink>(
+    alloc: A,
+    desk: &mut Desk<A, P>,
+    names: &[FileName<B>],
+    files: &F,
+    writer: &mut W,
+) -> Result<(), StreamFault>
+    requires { needs_no_file (wish_at desk.old) ≡ true }
+    ensures told { OnOk result (HasFirsts (F.known files.now) desk.old desk.new names.now
+        (W.contents writer.old) (W.contents writer.new)) }
+    ensures broken { IfErr result (λ fault. IsBrokenOff (F.known files.now) desk.old names.now
+        (Some []) None fault (W.contents writer.old) (W.contents writer.new)) }
+    ensures cause { IfErr result (λ fault. HasCause fault false (W.failed writer.new)) }
+{
+    for name in names {
+        if let Wish::Nothing = desk.wish() {
+            return Ok(());
+        }
+        deliver(writer, desk.first(bytes_of(name)))?;
+        serve(alloc, desk, files, writer)?;
+    }
+    Ok(())
+}
+
+/// Holds a session at a new desk, as `attend` says.
+fn hold<A: Allocator + Copy, B: Allocator, P: Progress, F: Files, R: Feed, W: Sink>(
+    alloc: A,
+    desk: &mut Desk<A, P>,
+    names: &[FileName<B>],
+    files: &F,
+    reader: &mut R,
+    writer: &mut W,
+) -> Result<bool, StreamFault>
+    requires { needs_no_file (wish_at desk.old) ≡ true }
+    ensures held { IfOk result (λ refused. IsSession (F.known files.now) desk.old names.now
+        (R.remaining reader.old) refused (W.contents writer.old) (W.contents writer.new)) }
+    ensures broken { IfErr result (λ fault. IsBrokenOff (F.known files.now) desk.old names.now
+        (R.remaining reader.old) (R.remaining reader.new) fault
+        (W.contents writer.old) (W.contents writer.new)) }
+    ensures cause { IfErr result (λ fault.
+        HasCause fault (R.failed reader.new) (W.failed writer.new)) }
+{
+    tell_firsts(alloc, desk, names, files, writer)?;
+    let mut lines = LineReader::new();
+    for step in 0..u64::MAX {
+        if let Wish::Nothing = desk.wish() {
+            return Ok(desk.has_refused());
+        }
+        if !tell_typed(desk, &mut lines, reader, writer)? {
+            return Ok(desk.has_refused());
+        }
+        serve(alloc, desk, files, writer)?;
+    }
+    Err(StreamFault::Memory)
+}
 
 /// Answers the lines of files and then typed lines, to the reader's end or to `quit`, and writes the reply to each, in this manner;
-/// answers how many replies begin with a question mark. Nothing is read after `quit`. How far long runs are is reported while they go on.
+/// answers whether a reply was a refusal. Nothing is read after `quit`. How far long runs are is reported while they go on.
 pub fn attend<A: Allocator + Copy, B: Allocator, P: Progress, F: Files, R: Feed, W: Sink>(
     alloc: A,
     manner: Manner,
     names: &[FileName<B>],
-    files: F,
+    files: &F,
     progress: P,
     reader: &mut R,
     writer: &mut W,
-) -> Result<u64, StreamFault>
-    ensures { HasAnswered manner names.now (F.drawer files) (R.remaining reader.old)
+) -> Result<bool, StreamFault>
+    ensures { HasAnswered (F.known files.now) manner names.now
+        (R.remaining reader.old) (R.remaining reader.new)
         (record { read = R.failed reader.new; write = W.failed writer.new }) result
         (W.contents writer.old) (W.contents writer.new) }
 {
-    let Ok(mut desk) = Desk::new(alloc, manner, files, progress) else {
+    let Ok(mut desk) = Desk::new(alloc, manner, progress) else {
         return Err(StreamFault::Memory);
     };
-    let mut tally = Tally::new();
-    match desk.begin(names, writer, &mut tally) {
-        Ok(()) => run_speech(desk, tally, reader, writer),
-        Err(fault) => Err(fault),
-    }
+    hold(alloc, &mut desk, names, files, reader, writer)
 }

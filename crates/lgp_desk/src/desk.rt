@@ -1,45 +1,60 @@
-//! The monitor at a desk, where lines are typed until `quit`.
+//! The monitor at a desk, where lines are typed until `quit`. It reads nothing and writes nothing: it says what it wishes for, and is told
+//! what came of that.
 
-ghost use Rattle.std.specs.Prelude.{◌≡◌, ◌++◌, ◌∷◌, [], IfErr, IfOk, IsTrue, List, OnOk, ℕ, codes, false, is_none, is_some};
-ghost use Rattle.std.specs.Str.Lines.{lines};
+ghost use Rattle.std.specs.Prelude.{◌≡◌, ◌++◌, ◌||◌, IfOk, IfSome, List, None, OnOk, ℕ, is_none, option_map};
+ghost use Rattle.std.specs.Result.{result_map_both};
 ghost use Rattle.lgp_stream.specs.KeptLine.{kept_of};
-ghost use Rattle.lgp_stream.specs.Language.{HasCause};
-ghost use Rattle.lgp_stream.specs.Speech.{IsSaying};
 ghost use Rattle.lgp_monitor.specs.Monitor.{monitor_language};
-ghost use Rattle.lgp_desk.specs.Desk.{all_answered, answered, begun, desk_speech, file_said, first_said, left_by, lines_said, own, prompt_at, prompt_in, prompt_texts, refused, said, taken_seat, text_at, typed_by, worked, written_last};
-ghost use Rattle.lgp_desk.specs.DeskInside.{HasSaid, inner};
-ghost use Rattle.lgp_desk.specs.Troubles.{line_note};
-ghost use Rattle.lgp_desk.specs.declared.files.FileTrouble.{FileTrouble};
+ghost use Rattle.lgp_stream.specs.Language.{is_question};
+ghost use Rattle.lgp_desk.specs.Desk.{First, Found, Kept, Onward, Typed, answered, asked, closing_text, command_said, is_keep, left_by, line_said, marked, note_at, own, prompt_at, prompt_in, refused, said_to, taken_seat, takes_lines, wanting, wish_at, without_file, written_last};
+ghost use Rattle.lgp_desk.specs.FileForms.{text_made};
+ghost use Rattle.lgp_desk.specs.OpenFileInside.{HasNextOf};
 
-use crate::files::{FileTrouble, Files};
-use crate::request::{Work, is_quit, request_in};
-use crate::trouble::{line_note, push_trouble};
+use crate::files::FileTrouble;
+use crate::keeping::text_made;
+use crate::open_file::OpenFile;
+use crate::request::{Made, Work, is_quit, request_in};
+use crate::trouble::push_trouble;
+use crate::wish::Wish;
 use crate::writing::{Manner, REPLY_ROOM, form_in, push_last, push_own, push_shown, written};
-use lgp_lab::FileName;
 use lgp_monitor::{Monitor, Progress};
 use lgp_script::Laboratory;
-use lgp_stream::{Answers, LineBytes, Sink, Speaks, StreamFault, Tally, first_line};
+use lgp_stream::{Answers, LineBytes, is_question};
 use lgp_text::{Piece, push_pieces, status_text};
 use std::alloc::{AllocError, Allocator};
 use std::marker::Model;
+use std::mem;
 
 mod work;
 
-/// How many files may be open within one another.
-const DEPTH: u64 = 16;
+/// In how many files a file may be named, each in the one before.
+const DEPTH: usize = 15;
 
-/// The monitor at a desk. Clauses see its state, how replies are written, the files, where they are known, and whether the desk
-/// was left.
+/// Whether something is to be kept in a file.
+fn is_keep(work: Work) -> bool
+    ensures { result ≡ is_keep work }
+{
+    matches!(work, Work::Keep(_))
+}
+
+/// The monitor at a desk. Clauses see its state, how replies are written, the files whose lines are typed, the file that it wishes for,
+/// whether a reply was a refusal, and whether the desk was left.
 #[derive(Drop)]
-pub struct Desk<A: Allocator + Copy, P: Progress, F: Files> {
+pub struct Desk<A: Allocator + Copy, P: Progress> {
     alloc: A,
     monitor: Monitor<Laboratory<A>, A, P>,
-    files: F,
     manner: Manner,
+    inner: Option<OpenFile<A>>,
+    outer: Vec<OpenFile<A>, A>,
+    wanted: Option<Work>,
+    note: Vec<u8, A>,
+    name: Vec<u8, A>,
+    has_refused: bool,
     has_left: bool,
 }
 
-impl<A: Allocator + Copy, P: Progress, F: Files> Model for Desk<A, P, F> {
+impl<A: Allocator + Copy, P: Progress> Model for Desk<A, P> {
+    ghost use Rattle.std.specs.Prelude.{option_map};
     ghost use Rattle.lgp_desk.specs.Desk.{Seat};
 
     ghost Value = { Seat };
@@ -47,24 +62,76 @@ impl<A: Allocator + Copy, P: Progress, F: Files> Model for Desk<A, P, F> {
     ghost view = { λ desk. record {
       recorded = desk.monitor;
       manner = desk.manner;
-      drawer = F.drawer desk.files;
+      inner = desk.inner;
+      outer = desk.outer.items;
+      wanted = option_map (λ work. record {
+        work = work;
+        note = desk.note.items;
+        name = desk.name.items;
+      }) desk.wanted;
+      has_refused = desk.has_refused;
       has_left = desk.has_left;
     } };
 }
 
-impl<A: Allocator + Copy, P: Progress, F: Files> Desk<A, P, F> {
+impl<A: Allocator + Copy, P: Progress> Desk<A, P> {
     /// A desk at which nothing was typed yet.
-    pub fn new(alloc: A, manner: Manner, files: F, progress: P) -> Result<Desk<A, P, F>, AllocError>
-        ensures { IfOk result (λ desk. desk ≡ taken_seat manner (F.drawer files)) }
+    pub fn new(alloc: A, manner: Manner, progress: P) -> Result<Desk<A, P>, AllocError>
+        ensures { IfOk result (λ desk. desk ≡ taken_seat manner) }
     {
         let monitor = Monitor::telling(alloc, progress)?;
         Ok(Desk {
             alloc,
             monitor,
-            files,
             manner,
+            inner: None,
+            outer: Vec::new(alloc),
+            wanted: None,
+            note: Vec::new(alloc),
+            name: Vec::new(alloc),
+            has_refused: false,
             has_left: false,
         })
+    }
+
+    /// What is to be done next.
+    #[tactic(auto, unfolding(crate::specs::Desk::wish_at))]
+    pub fn wish(&self) -> Wish
+        ensures { result ≡ wish_at self.now }
+    {
+        match self.wanted {
+            Some(Work::Keep(made)) => Wish::Keep(made),
+            Some(_) => Wish::Read,
+            None if self.inner.is_some() => Wish::Onward,
+            None if self.has_left => Wish::Nothing,
+            None => Wish::Line,
+        }
+    }
+
+    /// The name of the file that it wishes for, to be read or to keep something in.
+    pub fn file_name(&self) -> Option<&[u8]>
+        ensures { option_map (λ name. name.now) result
+            ≡ option_map (λ wanted. wanted.name) self.now.wanted }
+    {
+        match self.wanted {
+            Some(_) => Some(&self.name),
+            None => None,
+        }
+    }
+
+    /// What is to be kept in a file.
+    pub fn text_made(&self, made: Made) -> Result<Vec<u8, A>, AllocError>
+        ensures { IfOk result (λ text. text.items
+            ≡ text_made made self.now.recorded.state.debugger.state) }
+    {
+        text_made(self.alloc, made, self.monitor.laboratory())
+    }
+
+    /// Whether a reply was a refusal.
+    pub fn has_refused(&self) -> bool
+        ensures { result ≡ self.now.has_refused }
+    {
+        self.has_refused
     }
 
     /// Whether the next line is a command.
@@ -96,8 +163,8 @@ impl<A: Allocator + Copy, P: Progress, F: Files> Desk<A, P, F> {
         )
     }
 
-    /// The prompt, where one is due.
-    fn prompt(&self) -> Result<Vec<u8, A>, AllocError>
+    /// The prompt in front of the next line, where one is due.
+    pub fn prompt(&self) -> Result<Vec<u8, A>, AllocError>
         ensures { IfOk result (λ text. text.items
             ≡ prompt_in self.now.manner (prompt_at self.now.recorded)) }
     {
@@ -109,10 +176,171 @@ impl<A: Allocator + Copy, P: Progress, F: Files> Desk<A, P, F> {
         Ok(text)
     }
 
+    /// Whether a line can be typed.
+    fn takes_lines(&self) -> bool
+        ensures { result ≡ takes_lines self.now }
+    {
+        self.wanted.is_none() && self.inner.is_none() && !self.has_left
+    }
+
+    /// Notes whether what is written is a refusal.
+    fn mark(&mut self, text: &[u8])
+        ensures { self.new ≡ marked self.old text.now }
+    {
+        self.has_refused = self.has_refused || is_question(text);
+    }
+
+    /// Where the line comes from that is answered.
+    fn note(&self) -> Result<Vec<u8, A>, AllocError>
+        ensures { IfOk result (λ note. note.items ≡ note_at self.now) }
+    {
+        match &self.inner {
+            Some(file) => file.note(self.alloc),
+            None => Ok(Vec::new(self.alloc)),
+        }
+    }
+}
+
+impl<A: Allocator + Copy, P: Progress> Desk<A, P> {
+    /// The text for a line that the monitor answers.
+    fn answer(&mut self, note: &[u8], line: &LineBytes) -> Result<Vec<u8, A>, AllocError>
+        ensures text { (text : List ℕ) → line.now ≡ kept_of text → IfOk result (λ made.
+            made.items ≡ (answered note.now self.old text).text) }
+        ensures after { (text : List ℕ) → line.now ≡ kept_of text
+            → OnOk result (self.new ≡ (answered note.now self.old text).seat) }
+    {
+        let mut reply = Vec::with_capacity(self.alloc, REPLY_ROOM)?;
+        self.monitor
+            .answer_in(form_in(self.manner), line, &mut reply)?;
+        let (front, longer) = (line.front(), line.is_longer());
+        let text = written(self.alloc, self.manner, front, longer, note, reply)?;
+        self.mark(&text);
+        Ok(text)
+    }
+
+    /// The text for a reply of the desk itself.
+    fn say_own(&mut self, note: &[u8], reply: &[u8]) -> Result<Vec<u8, A>, AllocError>
+        ensures text { IfOk result (λ made. made.items ≡ (own note.now self.old reply.now).text) }
+        ensures after { OnOk result (self.new ≡ (own note.now self.old reply.now).seat) }
+    {
+        let mut text = Vec::new(self.alloc);
+        push_own(&mut text, self.manner, note, reply)?;
+        self.mark(&text);
+        Ok(text)
+    }
+
+    /// The text that refuses a file.
+    fn refuse(
+        &mut self,
+        note: &[u8],
+        name: &[u8],
+        trouble: FileTrouble,
+    ) -> Result<Vec<u8, A>, AllocError>
+        ensures text { IfOk result (λ made.
+            made.items ≡ (refused note.now self.old name.now trouble).text) }
+        ensures after { OnOk result (self.new ≡ (refused note.now self.old name.now trouble).seat) }
+    {
+        let mut reply = Vec::new(self.alloc);
+        push_trouble(&mut reply, name, trouble)?;
+        self.say_own(note, &reply)
+    }
+
+    /// Leaves the desk by a line: the text for it.
+    fn leave(&mut self, line: &LineBytes) -> Result<Vec<u8, A>, AllocError>
+        ensures text { (text : List ℕ) → line.now ≡ kept_of text → IfOk result (λ made.
+            made.items ≡ (left_by self.old text).text) }
+        ensures after { (text : List ℕ) → line.now ≡ kept_of text
+            → OnOk result (self.new ≡ (left_by self.old text).seat) }
+    {
+        self.inner = None;
+        self.outer.clear();
+        self.has_left = true;
+        let mut text = Vec::new(self.alloc);
+        push_shown(&mut text, self.manner, line.front(), line.is_longer(), b"")?;
+        Ok(text)
+    }
+
+    /// Wishes for a file.
+    fn want(&mut self, work: Work, note: Vec<u8, A>, name: &[u8]) -> Result<Vec<u8, A>, AllocError>
+        ensures text { IfOk result (λ made.
+            made.items ≡ (wanting work note.items self.old name.now).text) }
+        ensures after { OnOk result (self.new ≡ (wanting work note.items self.old name.now).seat) }
+    {
+        self.wanted = Some(work);
+        self.note = note;
+        self.name.clear();
+        self.name.extend_from_slice(name)?;
+        Ok(Vec::new(self.alloc))
+    }
+
+    /// The text for a line that names a file.
+    fn ask(&mut self, work: Work, note: Vec<u8, A>, name: &[u8]) -> Result<Vec<u8, A>, AllocError>
+        ensures text { IfOk result (λ made.
+            made.items ≡ (asked work note.items self.old name.now).text) }
+        ensures after { OnOk result (self.new ≡ (asked work note.items self.old name.now).seat) }
+    {
+        let is_deep = self.inner.is_some() && self.outer.len() >= DEPTH;
+        match work {
+            Work::Lines if is_deep => self.refuse(&note, name, FileTrouble::TooDeep),
+            _ => self.want(work, note, name),
+        }
+    }
+
+    /// The text for a line where no source is open.
+    fn command(&mut self, note: Vec<u8, A>, line: &LineBytes) -> Result<Vec<u8, A>, AllocError>
+        ensures text { (text : List ℕ) → line.now ≡ kept_of text → IfOk result (λ made.
+            made.items ≡ (command_said note.items self.old text).text) }
+        ensures after { (text : List ℕ) → line.now ≡ kept_of text
+            → OnOk result (self.new ≡ (command_said note.items self.old text).seat) }
+    {
+        if is_quit(line) {
+            return self.leave(line);
+        }
+        if line.is_longer() {
+            return self.answer(&note, line);
+        }
+        match request_in(line.front()) {
+            Some(request) => self.ask(request.work, note, request.name),
+            None => self.answer(&note, line),
+        }
+    }
+
+    /// The text for a line that is typed, or one of a file.
+    fn hear(&mut self, line: &LineBytes) -> Result<Vec<u8, A>, AllocError>
+        ensures text { (text : List ℕ) → line.now ≡ kept_of text → IfOk result (λ made.
+            made.items ≡ (line_said self.old text).text) }
+        ensures after { (text : List ℕ) → line.now ≡ kept_of text
+            → OnOk result (self.new ≡ (line_said self.old text).seat) }
+    {
+        let note = self.note()?;
+        if self.takes_commands() {
+            self.command(note, line)
+        } else {
+            self.answer(&note, line)
+        }
+    }
+}
+
+impl<A: Allocator + Copy, P: Progress> Desk<A, P> {
+    /// Is told a line that is typed: the text that is to be written.
+    #[tactic(auto, unfolding(crate::specs::Desk::said_to))]
+    pub fn typed(&mut self, line: &LineBytes) -> Result<Vec<u8, A>, AllocError>
+        ensures text { (text : List ℕ) → line.now ≡ kept_of text → IfOk result (λ made.
+            made.items ≡ (said_to self.old (Typed text)).text) }
+        ensures after { (text : List ℕ) → line.now ≡ kept_of text
+            → OnOk result (self.new ≡ (said_to self.old (Typed text)).seat) }
+    {
+        if !self.takes_lines() {
+            return Ok(Vec::new(self.alloc));
+        }
+        self.hear(line)
+    }
+
     /// The text for the end.
     fn end_text(&mut self) -> Result<Vec<u8, A>, AllocError>
-        ensures { IfOk result (λ text. text.items
+        ensures text { IfOk result (λ text. text.items
             ≡ written_last self.old.manner (monitor_language.closing self.old.recorded)) }
+        ensures refused { self.new.has_refused ≡ self.old.has_refused }
     {
         let mut reply = Vec::new(self.alloc);
         self.monitor.close(&mut reply)?;
@@ -121,390 +349,112 @@ impl<A: Allocator + Copy, P: Progress, F: Files> Desk<A, P, F> {
         Ok(text)
     }
 
-    /// Writes the prompt, where one is due.
-    pub(crate) fn give_prompt<W: Sink>(
-        &self,
-        writer: &mut W,
-        tally: &mut Tally,
-    ) -> Result<(), StreamFault>
-        ensures said { IsSaying (W.contents writer.old) (W.contents writer.new) tally.old tally.new
-            result (prompt_texts self.now) }
-        ensures cause { IfErr result (λ fault. HasCause fault false (W.failed writer.new)) }
-    {
-        if self.has_left {
-            return Ok(());
-        }
-        let Ok(text) = self.prompt() else {
-            return Err(StreamFault::Memory);
-        };
-        tally.deliver(writer, &text)
-    }
-
-    /// The text for a line that the monitor answers.
-    fn answer_text(&mut self, note: &[u8], line: &LineBytes) -> Result<Vec<u8, A>, AllocError>
-        ensures text { (text : List ℕ) → line.now ≡ kept_of text → IfOk result (λ made.
-            made.items ∷ [] ≡ (answered note.now self.old text).texts) }
-        ensures after { (text : List ℕ) → line.now ≡ kept_of text
-            → OnOk result (self.new ≡ (answered note.now self.old text).seat) }
-    {
-        let mut reply = Vec::with_capacity(self.alloc, REPLY_ROOM)?;
-        self.monitor
-            .answer_in(form_in(self.manner), line, &mut reply)?;
-        let (front, longer) = (line.front(), line.is_longer());
-        written(self.alloc, self.manner, front, longer, note, reply)
-    }
-
-    /// Has the monitor answer a line.
-    fn answer_line<W: Sink>(
-        &mut self,
-        note: &[u8],
-        line: &LineBytes,
-        writer: &mut W,
-        tally: &mut Tally,
-    ) -> Result<(), StreamFault>
-        ensures said { (text : List ℕ) → IsTrue (is_some self.old.drawer) → line.now ≡ kept_of text
-            → HasSaid self.new (W.contents writer.old) (W.contents writer.new) tally.old tally.new
-            result (answered note.now self.old text) }
-        ensures cause { IfErr result (λ fault. HasCause fault false (W.failed writer.new)) }
-    {
-        let Ok(text) = self.answer_text(note, line) else {
-            return Err(StreamFault::Memory);
-        };
-        tally.deliver(writer, &text)
-    }
-
-    /// Has the monitor answer a line of the desk's own.
-    fn answer_bytes<W: Sink>(
-        &mut self,
-        note: &[u8],
-        line: &[u8],
-        writer: &mut W,
-        tally: &mut Tally,
-    ) -> Result<(), StreamFault>
-        ensures said { IsTrue (is_some self.old.drawer)
-            → HasSaid self.new (W.contents writer.old) (W.contents writer.new) tally.old tally.new
-            result (answered note.now self.old line.now) }
-        ensures cause { IfErr result (λ fault. HasCause fault false (W.failed writer.new)) }
-    {
-        self.answer_line(note, &LineBytes::of(line), writer, tally)
-    }
-
-    /// Has the monitor answer the lines of a text.
-    fn answer_all<W: Sink>(
-        &mut self,
-        note: &[u8],
-        text: &[u8],
-        writer: &mut W,
-        tally: &mut Tally,
-    ) -> Result<(), StreamFault>
-        ensures said { IsTrue (is_some self.old.drawer)
-            → HasSaid self.new (W.contents writer.old) (W.contents writer.new) tally.old tally.new
-            result (all_answered note.now self.old (lines text.now)) }
-        ensures cause { IfErr result (λ fault. HasCause fault false (W.failed writer.new)) }
-    {
-        let mut rest = text;
-        while !rest.is_empty() {
-            let first = first_line(rest);
-            self.answer_line(note, &first.line, writer, tally)?;
-            rest = first.rest;
-        }
-        Ok(())
-    }
-}
-
-impl<A: Allocator + Copy, P: Progress, F: Files> Desk<A, P, F> {
-    /// Writes a reply of the desk itself.
-    fn give<W: Sink>(
-        &self,
-        note: &[u8],
-        reply: &[u8],
-        writer: &mut W,
-        tally: &mut Tally,
-    ) -> Result<(), StreamFault>
-        ensures said { IsTrue (is_some self.now.drawer)
-            → HasSaid self.now (W.contents writer.old) (W.contents writer.new) tally.old tally.new
-            result (own note.now self.now reply.now) }
-        ensures cause { IfErr result (λ fault. HasCause fault false (W.failed writer.new)) }
+    /// Is told that no line is typed any more: the text that is to be written. Nothing more is to be told it then.
+    #[tactic(auto, unfolding(crate::specs::Desk::closing_text))]
+    pub fn close(&mut self) -> Result<Vec<u8, A>, AllocError>
+        ensures text { IfOk result (λ made. made.items ≡ closing_text self.old) }
+        ensures refused { OnOk result (self.new.has_refused
+            ≡ (self.old.has_refused || is_question (closing_text self.old))) }
     {
         let mut text = Vec::new(self.alloc);
-        let Ok(()) = push_own(&mut text, self.manner, note, reply) else {
-            return Err(StreamFault::Memory);
-        };
-        tally.deliver(writer, &text)
-    }
-
-    /// Refuses a file.
-    fn refuse<W: Sink>(
-        &self,
-        note: &[u8],
-        name: &[u8],
-        trouble: FileTrouble,
-        writer: &mut W,
-        tally: &mut Tally,
-    ) -> Result<(), StreamFault>
-        ensures said { IsTrue (is_some self.now.drawer)
-            → HasSaid self.now (W.contents writer.old) (W.contents writer.new) tally.old tally.new
-            result (refused note.now self.now name.now trouble) }
-        ensures cause { IfErr result (λ fault. HasCause fault false (W.failed writer.new)) }
-    {
-        let mut reply = Vec::new(self.alloc);
-        let Ok(()) = push_trouble(&mut reply, name, trouble) else {
-            return Err(StreamFault::Memory);
-        };
-        self.give(note, &reply, writer, tally)
-    }
-
-    /// The text for a line that leaves the desk.
-    fn leaving_text(&mut self, line: &LineBytes) -> Result<Vec<u8, A>, AllocError>
-        ensures text { (text : List ℕ) → line.now ≡ kept_of text → IfOk result (λ made.
-            made.items ∷ [] ≡ (left_by self.old text).texts) }
-        ensures after { (text : List ℕ) → line.now ≡ kept_of text
-            → OnOk result (self.new ≡ (left_by self.old text).seat) }
-    {
-        self.has_left = true;
-        let mut text = Vec::new(self.alloc);
-        push_shown(&mut text, self.manner, line.front(), line.is_longer(), b"")?;
+        if self.takes_lines() {
+            text = self.end_text()?;
+        }
+        self.has_refused = self.has_refused || is_question(&text);
         Ok(text)
     }
 
-    /// Leaves the desk by a line.
-    fn leave<W: Sink>(
-        &mut self,
-        line: &LineBytes,
-        writer: &mut W,
-        tally: &mut Tally,
-    ) -> Result<(), StreamFault>
-        ensures said { (text : List ℕ) → IsTrue (is_some self.old.drawer) → line.now ≡ kept_of text
-            → HasSaid self.new (W.contents writer.old) (W.contents writer.new) tally.old tally.new
-            result (left_by self.old text) }
-        ensures cause { IfErr result (λ fault. HasCause fault false (W.failed writer.new)) }
+    /// Is told the name of a file whose lines come before those that are typed.
+    #[tactic(auto, unfolding(crate::specs::Desk::said_to))]
+    pub fn first(&mut self, name: &[u8]) -> Result<Vec<u8, A>, AllocError>
+        ensures text { IfOk result (λ made. made.items ≡ (said_to self.old (First name.now)).text) }
+        ensures after { OnOk result (self.new ≡ (said_to self.old (First name.now)).seat) }
     {
-        let Ok(text) = self.leaving_text(line) else {
-            return Err(StreamFault::Memory);
+        if !self.takes_lines() {
+            return Ok(Vec::new(self.alloc));
+        }
+        let mut note = Vec::new(self.alloc);
+        note.extend_from_slice(b"named on the command line")?;
+        self.want(Work::Lines, note, name)
+    }
+
+    /// The next line of the file whose lines are typed.
+    fn next_line(&mut self) -> Option<LineBytes>
+        ensures { HasNextOf self.old self.new result }
+    {
+        let Some(file) = &mut self.inner else {
+            return None;
         };
-        tally.deliver(writer, &text)
-    }
-}
-
-impl<A: Allocator + Copy, P: Progress, F: Files> Desk<A, P, F> {
-    /// Answers a line; this many files more may be opened within one another.
-    #[cycle(lines)]
-    fn say<W: Sink>(
-        &mut self,
-        depth: u64,
-        note: &[u8],
-        line: &LineBytes,
-        writer: &mut W,
-        tally: &mut Tally,
-    ) -> Result<(), StreamFault>
-        ensures said { (text : List ℕ) → IsTrue (is_some self.old.drawer) → line.now ≡ kept_of text
-            → HasSaid self.new (W.contents writer.old) (W.contents writer.new) tally.old tally.new
-            result (said depth note.now self.old text) }
-        ensures cause { IfErr result (λ fault. HasCause fault false (W.failed writer.new)) }
-    {
-        if self.has_left {
-            return Ok(());
-        }
-        if !self.takes_commands() {
-            return self.answer_line(note, line, writer, tally);
-        }
-        if is_quit(line) {
-            return self.leave(line, writer, tally);
-        }
-        if line.is_longer() {
-            return self.answer_line(note, line, writer, tally);
-        }
-        match request_in(line.front()) {
-            Some(request) => self.work_on(depth, note, request.work, request.name, writer, tally),
-            None => self.answer_line(note, line, writer, tally),
-        }
+        file.next_line()
     }
 
-    /// Does what a line asks for that names a file.
-    #[cycle(lines)]
-    fn work_on<W: Sink>(
-        &mut self,
-        depth: u64,
-        note: &[u8],
-        work: Work,
-        name: &[u8],
-        writer: &mut W,
-        tally: &mut Tally,
-    ) -> Result<(), StreamFault>
-        ensures said { IsTrue (is_some self.old.drawer)
-            → HasSaid self.new (W.contents writer.old) (W.contents writer.new) tally.old tally.new
-            result (worked (typed_by (inner depth) note.now self.old) note.now self.old work
-            name.now) }
-        ensures cause { IfErr result (λ fault. HasCause fault false (W.failed writer.new)) }
+    /// Goes back to the file in which the one was named whose lines are typed.
+    fn end_file(&mut self)
+        ensures { self.new ≡ without_file self.old }
     {
-        match work {
-            Work::Lines => self.type_file(depth, note, name, writer, tally),
-            Work::Keep(made) => self.save(made, note, name, writer, tally),
-            Work::Source | Work::Tape(_) | Work::Restore(_) => {
-                self.use_file(work, note, name, writer, tally)
-            }
-        }
+        self.inner = self.outer.pop();
     }
 
-    /// Types the lines of a file, or refuses it.
-    #[cycle(lines)]
-    fn type_file<W: Sink>(
-        &mut self,
-        depth: u64,
-        note: &[u8],
-        name: &[u8],
-        writer: &mut W,
-        tally: &mut Tally,
-    ) -> Result<(), StreamFault>
-        ensures said { IsTrue (is_some self.old.drawer)
-            → HasSaid self.new (W.contents writer.old) (W.contents writer.new) tally.old tally.new
-            result (typed_by (inner depth) note.now self.old name.now) }
-        ensures cause { IfErr result (λ fault. HasCause fault false (W.failed writer.new)) }
+    /// Is told to go on with the lines of a file: the text that is to be written for one of them.
+    #[tactic(auto, unfolding(crate::specs::Desk::said_to))]
+    pub fn onward(&mut self) -> Result<Vec<u8, A>, AllocError>
+        ensures text { IfOk result (λ made. made.items ≡ (said_to self.old Onward).text) }
+        ensures after { OnOk result (self.new ≡ (said_to self.old Onward).seat) }
     {
-        if depth == 0 {
-            return self.refuse(note, name, FileTrouble::TooDeep, writer, tally);
+        if self.wanted.is_some() || self.inner.is_none() {
+            return Ok(Vec::new(self.alloc));
         }
-        match self.files.read(self.alloc, name) {
-            Ok(Ok(text)) => self.type_lines(depth - 1, name, &text, writer, tally),
-            Ok(Err(trouble)) => self.refuse(note, name, trouble, writer, tally),
-            Err(_) => Err(StreamFault::Memory),
-        }
-    }
-
-    /// Types a line of a file by its number.
-    #[cycle(lines)]
-    fn type_line<W: Sink>(
-        &mut self,
-        depth: u64,
-        name: &[u8],
-        number: u64,
-        line: &LineBytes,
-        writer: &mut W,
-        tally: &mut Tally,
-    ) -> Result<(), StreamFault>
-        ensures said { (text : List ℕ) → IsTrue (is_some self.old.drawer) → line.now ≡ kept_of text
-            → HasSaid self.new (W.contents writer.old) (W.contents writer.new) tally.old tally.new
-            result (said depth (line_note number name.now) self.old text) }
-        ensures cause { IfErr result (λ fault. HasCause fault false (W.failed writer.new)) }
-    {
-        if self.has_left {
-            return Ok(());
-        }
-        let Ok(note) = line_note(self.alloc, number, name) else {
-            return Err(StreamFault::Memory);
+        let Some(line) = self.next_line() else {
+            self.end_file();
+            return Ok(Vec::new(self.alloc));
         };
-        self.say(depth, &note, line, writer, tally)
+        self.hear(&line)
     }
 
-    /// Types the lines of a file.
-    #[cycle(lines)]
-    fn type_lines<W: Sink>(
-        &mut self,
-        depth: u64,
-        name: &[u8],
-        text: &[u8],
-        writer: &mut W,
-        tally: &mut Tally,
-    ) -> Result<(), StreamFault>
-        ensures said { IsTrue (is_some self.old.drawer)
-            → HasSaid self.new (W.contents writer.old) (W.contents writer.new) tally.old tally.new
-            result (lines_said (said depth) name.now 1 self.old (lines text.now)) }
-        ensures cause { IfErr result (λ fault. HasCause fault false (W.failed writer.new)) }
+    /// Wishes for no file any more: where the line came from that named it, and its name.
+    fn granted(&mut self) -> (Vec<u8, A>, Vec<u8, A>)
+        ensures after { self.new ≡ record self.old { wanted = None } }
+        ensures note { IfSome self.old.wanted (λ wanted. result.0.items ≡ wanted.note) }
+        ensures name { IfSome self.old.wanted (λ wanted. result.1.items ≡ wanted.name) }
     {
-        let mut rest = text;
-        let mut number = 1;
-        while !rest.is_empty() {
-            let first = first_line(rest);
-            self.type_line(depth, name, number, &first.line, writer, tally)?;
-            rest = first.rest;
-            number += 1;
-        }
-        tally.deliver(writer, b"")
+        self.wanted = None;
+        (
+            mem::replace(&mut self.note, Vec::new(self.alloc)),
+            mem::replace(&mut self.name, Vec::new(self.alloc)),
+        )
     }
-}
 
-impl<A: Allocator + Copy, P: Progress, F: Files> Desk<A, P, F> {
-    /// Types the lines of a file that comes before what is typed.
-    pub(crate) fn type_first<W: Sink>(
-        &mut self,
-        name: &[u8],
-        writer: &mut W,
-        tally: &mut Tally,
-    ) -> Result<(), StreamFault>
-        ensures said { IsTrue (is_some self.old.drawer)
-            → HasSaid self.new (W.contents writer.old) (W.contents writer.new) tally.old tally.new
-            result (file_said (said 15) (codes "named on the command line") self.old name.now
-            (text_at self.old name.now)) }
-        ensures cause { IfErr result (λ fault. HasCause fault false (W.failed writer.new)) }
+    /// Is told what the file holds that it wished for, or why it is refused: the text that is to be written.
+    #[tactic(auto, unfolding(crate::specs::Desk::said_to))]
+    pub fn found(&mut self, read: Result<Vec<u8, A>, FileTrouble>) -> Result<Vec<u8, A>, AllocError>
+        ensures text { IfOk result (λ made. made.items ≡ (said_to self.old (Found
+            (result_map_both (λ text. text.items) (λ trouble. trouble) read))).text) }
+        ensures after { OnOk result (self.new ≡ (said_to self.old (Found
+            (result_map_both (λ text. text.items) (λ trouble. trouble) read))).seat) }
     {
-        self.type_file(DEPTH, b"named on the command line", name, writer, tally)
-    }
-
-    /// Types the lines of files that come before what is typed.
-    fn type_all_first<B: Allocator, W: Sink>(
-        &mut self,
-        names: &[FileName<B>],
-        writer: &mut W,
-        tally: &mut Tally,
-    ) -> Result<(), StreamFault>
-        ensures said { IsTrue (is_some self.old.drawer)
-            → HasSaid self.new (W.contents writer.old) (W.contents writer.new) tally.old tally.new
-            result (first_said self.old names.now) }
-        ensures cause { IfErr result (λ fault. HasCause fault false (W.failed writer.new)) }
-    {
-        for name in names {
-            self.type_first(name.text().as_bytes(), writer, tally)?;
-        }
-        Ok(())
-    }
-
-    /// Types the lines of files that come before what is typed, and gives the prompt.
-    pub(crate) fn begin<B: Allocator, W: Sink>(
-        &mut self,
-        names: &[FileName<B>],
-        writer: &mut W,
-        tally: &mut Tally,
-    ) -> Result<(), StreamFault>
-        ensures said { IsTrue (is_some self.old.drawer)
-            → HasSaid self.new (W.contents writer.old) (W.contents writer.new) tally.old tally.new
-            result (begun self.old names.now) }
-        ensures cause { IfErr result (λ fault. HasCause fault false (W.failed writer.new)) }
-    {
-        self.type_all_first(names, writer, tally)?;
-        self.give_prompt(writer, tally)
-    }
-}
-
-impl<A: Allocator + Copy, P: Progress, F: Files> Speaks for Desk<A, P, F> {
-    ghost speech = { desk_speech };
-
-    #[tactic(auto, unfolding(crate::specs::Desk::desk_speech))]
-    fn speak<W: Sink>(
-        &mut self,
-        line: &LineBytes,
-        writer: &mut W,
-        tally: &mut Tally,
-    ) -> Result<(), StreamFault> {
-        if self.has_left {
-            return Ok(());
-        }
-        self.say(DEPTH, b"", line, writer, tally)?;
-        self.give_prompt(writer, tally)
-    }
-
-    #[tactic(auto, unfolding(crate::specs::Desk::desk_speech))]
-    fn conclude<W: Sink>(&mut self, writer: &mut W, tally: &mut Tally) -> Result<(), StreamFault> {
-        if self.has_left {
-            return Ok(());
-        }
-        let Ok(text) = self.end_text() else {
-            return Err(StreamFault::Memory);
+        let Some(work) = self.wanted else {
+            return Ok(Vec::new(self.alloc));
         };
-        tally.deliver(writer, &text)
+        if is_keep(work) {
+            return Ok(Vec::new(self.alloc));
+        }
+        let (note, name) = self.granted();
+        self.use_file(work, &note, &name, read)
     }
 
-    #[tactic(auto, unfolding(crate::specs::Desk::desk_speech))]
-    fn has_ended(&self) -> bool {
-        self.has_left
+    /// Is told whether what it wished to keep is kept: the text that is to be written.
+    #[tactic(auto, unfolding(crate::specs::Desk::said_to))]
+    pub fn kept(&mut self, kept: bool) -> Result<Vec<u8, A>, AllocError>
+        ensures text { IfOk result (λ made. made.items ≡ (said_to self.old (Kept kept)).text) }
+        ensures after { OnOk result (self.new ≡ (said_to self.old (Kept kept)).seat) }
+    {
+        let Some(work) = self.wanted else {
+            return Ok(Vec::new(self.alloc));
+        };
+        if !is_keep(work) {
+            return Ok(Vec::new(self.alloc));
+        }
+        let (note, name) = self.granted();
+        self.say_kept(&note, &name, kept)
     }
 }

@@ -1,8 +1,6 @@
 //! Where files are kept: read whole, and written whole.
 
-ghost use Rattle.std.specs.Prelude.{◌≡◌, IfOk, None, Option, Some};
-ghost use Rattle.std.specs.Result.{result_map_both};
-ghost use Rattle.lgp_desk.specs.Files.{Drawer, IsKept, text_in};
+ghost use Rattle.std.specs.Prelude.{◌≡◌, IfOk, IfSome, List, Option, Some, ℕ};
 
 use lgp_stream::Feed;
 use std::alloc::{AllocError, Allocator};
@@ -36,25 +34,21 @@ pub enum FileTrouble {
     NotWritten,
 }
 
-/// Files by their names, each read whole and kept whole.
-pub trait Files: Drop {
-    /// The files, where they are known.
-    ghost drawer: { Self → Option Drawer };
+/// Files by their names.
+pub trait Files {
+    /// What the file of a name holds, where that is known: it holds it whatever is kept in files.
+    ghost known: { Self → List ℕ → Option (List ℕ) };
 
-    /// The bytes of the file of a name, or why it is refused.
-    fn read<A: Allocator>(
-        &self,
-        alloc: A,
-        name: &[u8],
-    ) -> Result<Result<Vec<u8, A>, FileTrouble>, AllocError>
-        ensures { (known : Drawer) → drawer self.now ≡ Some known → IfOk result (λ read.
-            result_map_both (λ text. text.items) (λ trouble. trouble) read
-            ≡ text_in known name.now) };
+    /// What reads a file.
+    type Reader: Feed + Drop;
+
+    /// What reads the file of this name from its first byte on; None where it cannot be opened.
+    fn open(&self, name: &str) -> Option<Self::Reader>
+        ensures { IfSome result (λ reader. IfSome (known self.now name.now) (λ held.
+            Self.Reader.remaining reader ≡ Some held)) };
 
     /// Keeps a text under a name, in place of what is there. Answers whether it is kept; where it is not, what was there is as it was.
-    fn keep(&mut self, name: &[u8], text: &[u8]) -> Result<bool, AllocError>
-        ensures { (known : Drawer) → drawer self.old ≡ Some known → IfOk result (λ kept.
-            IsKept known name.now text.now kept (drawer self.new)) };
+    fn keep(&self, name: &str, text: &[u8]) -> bool;
 }
 
 /// The most bytes that a file may have which is read.
@@ -62,31 +56,6 @@ pub const FILE_LIMIT: usize = 16_777_216;
 
 /// How many bytes are asked for at once.
 const PORTION: usize = 4096;
-
-/// Files of a system, which are opened and written by their names. No clause says what they hold.
-pub trait Filing {
-    /// What reads a file.
-    type Reader: Feed + Drop;
-
-    /// What reads the file of this name from its first byte on; None where it cannot be opened.
-    fn open(&self, name: &str) -> Option<Self::Reader>;
-
-    /// Keeps a text under a name, in place of what is there. Answers whether it is kept; where it is not, what was there is as it was.
-    fn keep(&self, name: &str, text: &[u8]) -> bool;
-}
-
-/// The files of a system as files that are read whole.
-#[derive(Drop)]
-pub struct FilesOf<F: Filing + Drop> {
-    filing: F,
-}
-
-impl<F: Filing + Drop> FilesOf<F> {
-    /// The files of a system.
-    pub fn new(filing: F) -> FilesOf<F> {
-        FilesOf { filing }
-    }
-}
 
 /// Why a file's bytes are not there.
 enum Unread {
@@ -101,58 +70,63 @@ impl From<AllocError> for Unread {
 }
 
 /// The bytes that a reader has left.
-fn read_whole<A: Allocator, R: Feed>(alloc: A, reader: &mut R) -> Result<Vec<u8, A>, Unread> {
+fn read_whole<A: Allocator, R: Feed>(alloc: A, reader: &mut R) -> Result<Vec<u8, A>, Unread>
+    ensures { IfOk result (λ text. IfSome (R.remaining reader.old) (λ held. text.items ≡ held)) }
+{
     let mut text = Vec::new(alloc);
     let mut portion = [0; PORTION];
-    for _ in 0..u64::MAX {
+    'reads: loop {
         let Ok(count) = reader.read(&mut portion) else {
             return Err(Unread::Refused(FileTrouble::NotRead));
         };
         if count == 0 {
-            break;
+            return Ok(text);
         }
         if text.len().saturating_add(count) > FILE_LIMIT {
             return Err(Unread::Refused(FileTrouble::TooLong));
         }
         text.extend_from_slice(&portion[..count])?;
     }
-    Ok(text)
 }
 
 /// The bytes of the file of a name.
-fn read_named<A: Allocator, F: Filing>(
+fn read_named<A: Allocator, F: Files>(
     alloc: A,
-    filing: &F,
+    files: &F,
     name: &[u8],
-) -> Result<Vec<u8, A>, Unread> {
+) -> Result<Vec<u8, A>, Unread>
+    ensures { IfOk result (λ text. IfSome (F.known files.now name.now) (λ held.
+        text.items ≡ held)) }
+{
     let Ok(name) = str::from_utf8(name) else {
         return Err(Unread::Refused(FileTrouble::NotNamed));
     };
-    let Some(mut reader) = filing.open(name) else {
+    let Some(mut reader) = files.open(name) else {
         return Err(Unread::Refused(FileTrouble::NotOpened));
     };
     read_whole(alloc, &mut reader)
 }
 
-impl<F: Filing + Drop> Files for FilesOf<F> {
-    ghost drawer = { λ files. None };
-
-    fn read<A: Allocator>(
-        &self,
-        alloc: A,
-        name: &[u8],
-    ) -> Result<Result<Vec<u8, A>, FileTrouble>, AllocError> {
-        match read_named(alloc, &self.filing, name) {
-            Ok(text) => Ok(Ok(text)),
-            Err(Unread::Refused(trouble)) => Ok(Err(trouble)),
-            Err(Unread::Memory) => Err(AllocError),
-        }
+/// The bytes of the file of a name, or why it is refused.
+pub(crate) fn read_file<A: Allocator, F: Files>(
+    alloc: A,
+    files: &F,
+    name: &[u8],
+) -> Result<Result<Vec<u8, A>, FileTrouble>, AllocError>
+    ensures { IfOk result (λ read. IfOk read (λ text.
+        IfSome (F.known files.now name.now) (λ held. text.items ≡ held))) }
+{
+    match read_named(alloc, files, name) {
+        Ok(text) => Ok(Ok(text)),
+        Err(Unread::Refused(trouble)) => Ok(Err(trouble)),
+        Err(Unread::Memory) => Err(AllocError),
     }
+}
 
-    fn keep(&mut self, name: &[u8], text: &[u8]) -> Result<bool, AllocError> {
-        match str::from_utf8(name) {
-            Ok(name) => Ok(self.filing.keep(name, text)),
-            Err(_) => Ok(false),
-        }
+/// Keeps a text under a name, if that is a text itself; answers whether it is kept.
+pub(crate) fn keep_file<F: Files>(files: &F, name: &[u8], text: &[u8]) -> bool {
+    match str::from_utf8(name) {
+        Ok(name) => files.keep(name, text),
+        Err(_) => false,
     }
 }

@@ -11,14 +11,21 @@ ghost use Rattle.std.specs.List.{AllByRecursion};
 ghost use Rattle.lgp_stream.specs.Transcript.{IsReportedByTranscript};
 ghost use Rattle.lgp_script.specs.Script.{script_language};
 ghost use Rattle.lgp_script.specs.LabState.{opening_state};
-ghost use Rattle.lgp_desk.specs.Desk.{IsSayable, echo_of, session_end, session_handed};
+ghost use Rattle.lgp_desk.specs.Desk.{IsSayable, IsTyped, Seat, Told, all_said, echo_of, nothing, said_to, taken_seat, wish_at};
 ghost use Rattle.lgp_desk.specs.FileForms.{dump_in, tape_of, tape_text};
-ghost use Rattle.lgp_desk.specs.Files.{Drawer};
+ghost use Rattle.lgp_desk.specs.Sessions.{is_wished};
 ghost use Rattle.lgp_desk.specs.declared.request.DrumForm.TheVariants as drums;
 ghost use Rattle.lgp_desk.specs.declared.request.TapeForm.{TapeForm};
 ghost use Rattle.lgp_desk.specs.declared.writing.Manner.{Manner};
 
 use std::alloc::Allocator;
+
+/// What a desk has not wished for changes nothing, and nothing is said to it.
+#[tactic(auto, using(crate::proofs::WishLaws::unwished))]
+pub fn what_is_not_wished_for_changes_nothing()
+    ensures { (seat : Seat) (told : Told) → is_wished (wish_at seat) told ≡ false
+        → said_to seat told ≡ nothing seat }
+{}
 
 /// What is written for a line that is shown above its reply is counted as the reply alone would be, and so of a text.
 #[tactic(auto, unfolding(crate::specs::Desk::echo_of))]
@@ -32,10 +39,11 @@ pub fn echo_asks_as_its_reply()
 /// Whatever is typed, and whatever files hold that are named: the laboratory is where the script language puts it for the
 /// transcript, where no tape was mounted for whose text no line of a script has room. Of such a tape the transcript has the name alone.
 pub fn transcript_at_a_desk_is_the_script<A: Allocator>()
-    ensures { (manner : Manner) (names : List (List ℕ)) (drawer : Drawer) (typed : List ℕ)
-        → AllByRecursion IsSayable (session_handed manner names drawer typed)
+    ensures { (manner : Manner) (told : List Told)
+        → AllByRecursion IsTyped told
+        → AllByRecursion IsSayable (all_said (taken_seat manner) told).handed
         → IsReportedByTranscript script_language opening_state
-        (session_end manner names drawer typed).recorded }
+        (all_said (taken_seat manner) told).seat.recorded }
 {}
 
 /// A tape that is kept in any form is read from there as these codes, and the words of a drum from SIMH's form as their dump.

@@ -15,11 +15,11 @@ use lgp_task::{SessionTask, ask_for_session};
 use std::alloc::{Allocator, Global};
 
 /// The status for what became of typed lines.
-fn session_status(outcome: Result<u64, StreamFault>) -> u8
+fn session_status(outcome: Result<bool, StreamFault>) -> u8
     ensures { result ≡ session_status outcome }
 {
     match outcome {
-        Ok(count) => status_of(Ok(count)),
+        Ok(refused) => status_of(Ok(u64::from(refused))),
         Err(fault) => status_of(Err(FileFault::Broken(fault))),
     }
 }
@@ -30,13 +30,13 @@ pub fn hold_session<A: Allocator + Copy, B: Allocator, P: Progress, F: Files, R:
     alloc: A,
     manner: Manner,
     names: &[FileName<B>],
-    files: F,
+    files: &F,
     progress: P,
     input: &mut R,
     output: &mut W,
 ) -> u8
-    ensures { IsHeld manner names.now (F.drawer files) (R.remaining input.old)
-        (record { read = R.failed input.new; write = W.failed output.new }) result
+    ensures { IsHeld (F.known files.now) manner names.now (R.remaining input.old)
+        (R.remaining input.new) (record { read = R.failed input.new; write = W.failed output.new }) result
         (W.contents output.old) (W.contents output.new) }
 {
     session_status(attend(alloc, manner, names, files, progress, input, output))
@@ -60,14 +60,13 @@ fn hold_task<A: Allocator + Copy, P: Progress, F: Files, R: Feed, W: Sink>(
     alloc: A,
     task: &SessionTask<A>,
     manner: Manner,
-    files: F,
+    files: &F,
     progress: P,
     input: &mut R,
     output: &mut W,
 ) -> u8
-    ensures { IsHeld (session_manner manner task.now) task.now.files (F.drawer files)
-        (R.remaining input.old)
-        (record { read = R.failed input.new; write = W.failed output.new }) result
+    ensures { IsHeld (F.known files.now) (session_manner manner task.now) task.now.files (R.remaining input.old)
+        (R.remaining input.new) (record { read = R.failed input.new; write = W.failed output.new }) result
         (W.contents output.old) (W.contents output.new) }
 {
     hold_session(
@@ -90,7 +89,7 @@ pub fn obey_session<A: Allocator + Copy, P: Progress, F: Files, R: Feed, W: Sink
     alloc: A,
     words: Result<&[String], WordFault>,
     manner: Manner,
-    files: F,
+    files: &F,
     progress: P,
     input: &mut R,
     output: &mut W,
@@ -99,8 +98,8 @@ pub fn obey_session<A: Allocator + Copy, P: Progress, F: Files, R: Feed, W: Sink
     requires output { W.failed output.old ≡ false }
     requires messages { M.failed messages.old ≡ false }
     ensures asked { IfOk words.entry (λ words.
-        IsAsked A manner (map string_bytes words.now) (F.drawer files)
-        (R.remaining input.old) (record { read = R.failed input.new; write = W.failed output.new })
+        IsAsked A (F.known files.now) manner (map string_bytes words.now) (R.remaining input.old)
+        (R.remaining input.new) (record { read = R.failed input.new; write = W.failed output.new })
         (M.failed messages.new) result (W.contents output.old) (W.contents output.new)
         (M.contents messages.old) (M.contents messages.new)) }
     ensures unread { IfErr words.entry (λ fault.

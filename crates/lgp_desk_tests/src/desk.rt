@@ -3,13 +3,15 @@
 mod growths;
 mod json;
 mod kept;
-mod known;
 mod progress;
 mod sessions;
+mod steps;
+
+ghost use Rattle.std.specs.Prelude.{None};
 
 use crate::{expect_eq, is_done};
-use lgp_desk::{FileTrouble, FilesOf, Filing, Manner, attend};
-use lgp_lab::{FeedOf, FileNames, READS, SinkOf};
+use lgp_desk::{FileTrouble, Files, Manner, attend};
+use lgp_lab::{Feed, FeedOf, FileNames, READS, SinkOf};
 use lgp_monitor::{Progress, Silence};
 use lgp_stream::StreamFault;
 use std::alloc::{Allocator, Global};
@@ -72,7 +74,9 @@ fn bytes_of(name: &str) -> Option<&'static [u8]> {
     None
 }
 
-impl Filing for Made {
+impl Files for Made {
+    ghost known = { λ files name. None };
+
     type Reader = FeedOf<&'static [u8]>;
 
     fn open(&self, name: &str) -> Option<FeedOf<&'static [u8]>> {
@@ -87,27 +91,39 @@ impl Filing for Made {
     }
 }
 
-/// Answers typed lines at a desk with these files; what is written comes after `written`.
-pub(crate) fn answer<A: Allocator + Copy, F: Filing + Drop, P: Progress>(
+/// Answers the lines of a reader at a desk with these files; what is written comes after `written`.
+fn answer_read<A: Allocator + Copy, F: Files, P: Progress, R: Feed>(
     alloc: A,
     manner: Manner,
-    filing: F,
+    files: &F,
     progress: P,
-    typed: &[u8],
+    reader: &mut R,
     written: &mut Vec<u8>,
-) -> Result<u64, StreamFault> {
-    let mut feed = FeedOf::new(typed, READS);
+) -> Result<bool, StreamFault> {
     let mut sink = SinkOf::new(&mut *written);
     let names = FileNames::new(alloc);
     attend(
         alloc,
         manner,
         names.names(),
-        FilesOf::new(filing),
+        files,
         progress,
-        &mut feed,
+        reader,
         &mut sink,
     )
+}
+
+/// The same with typed lines.
+pub(crate) fn answer<A: Allocator + Copy, F: Files, P: Progress>(
+    alloc: A,
+    manner: Manner,
+    files: &F,
+    progress: P,
+    typed: &[u8],
+    written: &mut Vec<u8>,
+) -> Result<bool, StreamFault> {
+    let mut feed = FeedOf::new(typed, READS);
+    answer_read(alloc, manner, files, progress, &mut feed, written)
 }
 
 /// The same with a few files.
@@ -116,12 +132,12 @@ pub(crate) fn run<A: Allocator + Copy>(
     manner: Manner,
     typed: &[u8],
     written: &mut Vec<u8>,
-) -> Result<u64, StreamFault> {
-    answer(alloc, manner, Made, Silence, typed, written)
+) -> Result<bool, StreamFault> {
+    answer(alloc, manner, &Made, Silence, typed, written)
 }
 
-/// Typed lines, how they are written, what is written, and how many replies begin with a question mark.
-pub(crate) type Row = (Manner, &'static [u8], &'static [u8], u64);
+/// Typed lines, how they are written, what is written, and whether a reply begins with a question mark.
+pub(crate) type Row = (Manner, &'static [u8], &'static [u8], bool);
 
 /// Whether typed lines are answered as their row says.
 fn is_answered(alloc: Global, row: &Row) -> bool {
@@ -150,35 +166,35 @@ static LINES: [Row; 7] = [
         Manner::Prompting,
         b"put 0003 u 0102\ngo 0003\nrun 1\nsource\nquit z\n end\n.\nlabels\nquit\nlabels\n",
         b"0000 halted operator> ok\n0000 halted operator> live\nlive 8 dead 0\nlive\nlive\nlive\norders 1 halted step\nlive\nlive\n0003 going> ran 1 limit\n0102 going> source> source> source> cells 1 start none\n0102 going> quit 0000\n0102 going> ",
-        0,
+        false,
     ),
     // Which rest it is: after an overflow, an input without a tape, one operation and a stop, and an order at the register.
     (
         Manner::Prompting,
         b"put 0000 d 0010\nput 0001 i\npress start\nrun 9\npress start\nrun 9\npress oneop\npress compute\npress start\nrun 9\npress execute\nquit\n",
         b"0000 halted operator> ok\n0000 halted operator> ok\n0000 halted operator> live\n0000 going> ran 1 rest\n0001 halted overflow> live\n0001 going> ran 1 rest\n0002 waiting> live\n0002 waiting> live\n0002 halted step> live\n0002 going> ran 1 rest\n0003 halted stop> live\n0003 executing> ",
-        0,
+        false,
     ),
     // After a rule the machine is still going; a reader that was started.
     (
         Manner::Prompting,
         b"put 0000 u 0001\nput 0001 i\nbreak 0001\npress start\nrun 9\nrun 1\npress read\nquit\n",
         b"0000 halted operator> ok\n0000 halted operator> ok\n0000 halted operator> rule 0\n0000 halted operator> live\n0000 going> ran 1 rule 0\n0001 going> ran 1 rest\n0002 waiting> live\n0002 reading> ",
-        0,
+        false,
     ),
     (
         Manner::Prompting,
         b"panels\n",
         b"0000 halted operator> ? 1 Form: there is no such command; help lists them all\n0000 halted operator> \n",
-        1,
+        true,
     ),
-    (Manner::Prompting, b"quit", b"0000 halted operator> ", 0),
-    (Manner::Prompting, b"", b"0000 halted operator> \n", 0),
+    (Manner::Prompting, b"quit", b"0000 halted operator> ", false),
+    (Manner::Prompting, b"", b"0000 halted operator> \n", false),
     (
         Manner::Echoing,
         b"put 0000 = 1\npanels\n quit \nlabels\n",
         b"> put 0000 = 1\nok\n? panels\n? 1 Form: there is no such command; help lists them all\n>  quit \n",
-        1,
+        true,
     ),
 ];
 
@@ -187,70 +203,94 @@ fn lines_at_a_desk_are_answered(rt: HostRuntime) {
     expect_eq(&rt, rows_answered(rt.alloc(), &LINES), 7);
 }
 
+/// What is written where a read fails after two lines and a part of one: their replies, and each prompt.
+const READ_ONCE: &[u8] =
+    b"0000 halted operator> ok\n0000 halted operator> 0000 00000002\n0000 halted operator> ";
+
+/// What becomes of a session whose reader fails after one read, and whether that is written.
+fn read_once(alloc: Global) -> (Result<bool, StreamFault>, bool) {
+    let mut written = Vec::new(alloc);
+    let mut feed = FeedOf::new(b"put 0000 = 1\nwords 0000 1\nfoo".as_slice(), 1);
+    let answer = answer_read(
+        alloc,
+        Manner::Prompting,
+        &Made,
+        Silence,
+        &mut feed,
+        &mut written,
+    );
+    (answer, written.as_slice() == READ_ONCE)
+}
+
+#[test]
+fn a_read_that_fails_breaks_a_session_off(rt: HostRuntime) {
+    expect_eq(&rt, read_once(rt.alloc()), (Err(StreamFault::Read), true));
+}
+
 /// Files of lines and of sources.
 static LINES_AND_SOURCES: [Row; 10] = [
     (
         Manner::Bare,
         b"do two lines\ntranscript\n",
         b"ok\n0000 00000002\nput 0000 00000002\nwords 0000 1\n",
-        0,
+        false,
     ),
     (
         Manner::Prompting,
         b"  do   two lines  \r\nquit",
         b"0000 halted operator> ok\n0000 00000002\n0000 halted operator> ",
-        0,
+        false,
     ),
     (
         Manner::Echoing,
         b"do outer\nfoo\n",
         b"> put 0001 = 1\nok\n> put 0000 = 1\nok\n> words 0000 1\n0000 00000002\n> words 0001 1\n0001 00000002\n? foo\n? 1 Form: there is no such command; help lists them all\n        line 4 of outer\n? foo\n? 1 Form: there is no such command; help lists them all\n",
-        2,
+        true,
     ),
     (
         Manner::Prompting,
         b"do empty\n",
         b"0000 halted operator> 0000 halted operator> \n",
-        0,
+        false,
     ),
     (
         Manner::Bare,
         b"do none\ndo \xff\nlist\n",
         b"? 13 File none: it cannot be opened\n? 13 File \xff: this is not a file name\n? 10 NoImage: no source has been assembled yet\n",
-        3,
+        true,
     ),
     (
         Manner::Bare,
         b"do itself\n",
         b"? 13 File itself: 16 files are already open, each from the one before\n        line 1 of itself\n",
-        1,
+        true,
     ),
     // What leaves in a file leaves all.
     (
         Manner::Prompting,
         b"do leaving\nlabels\n",
         b"0000 halted operator> ",
-        0,
+        false,
     ),
     // A source may begin in a file and end at the keyboard.
     (
         Manner::Prompting,
         b"do opening\n end start\n.\n",
         b"0000 halted operator> source> source> ? 9 Faults\nline 1 UnknownOrder\n         start z\n         ^^^^^\nline 2 UnknownName\n         end start\n             ^^^^^\n0000 halted operator> \n",
-        1,
+        true,
     ),
     (
         Manner::Bare,
         b"source program\ntranscript\nsource pointed\nsource empty\n",
         b"cells 1 start 0000\nsource\nstart z\n end start\n.\n? 13 File pointed: a line with only a point would end the source\n? 9 Faults\nline 1 NoEnd\n        empty\n",
-        2,
+        true,
     ),
     // A refusal says where its line comes from.
     (
         Manner::Bare,
         b"do naming\nsource faulty\n",
         b"? 1 Form: there is no such command; help lists them all\n        line 1 of naming\ncells 1 start 0000\n? 1 Form: line 1 is not a line of a dump\n        torn, line 3 of naming\n? 13 File torn: the byte at place 2, counting from 0, in line 1, does not begin a tape sign\n        line 4 of naming\nok 3\n? 9 Faults\nline 1 UnknownOrder\n         foo\n         ^^^\nline 2 NoEnd\n        faulty, line 6 of naming\n? 1 Form: there is no such command; help lists them all\n        line 7 of naming\n? 9 Faults\nline 1 UnknownOrder\n         foo\n         ^^^\nline 2 NoEnd\n        faulty\n",
-        6,
+        true,
     ),
 ];
 
@@ -265,73 +305,73 @@ static TAPES_AND_DRUMS: [Row; 11] = [
         Manner::Bare,
         b"tape tape\ntape torn\ntape later\narchive torn\narchive strange\ntranscript\n",
         b"ok 5\n? 13 File torn: the byte at place 2, counting from 0, in line 1, does not begin a tape sign\n? 13 File later: the byte at place 9, counting from 0, in line 3, does not begin a tape sign\nok 3\n? 13 File strange: the byte at place 2, counting from 0, in line 1, does not begin a tape sign\nmount 12[16]3'\nmount 12a\n",
-        3,
+        true,
     ),
     (
         Manner::Echoing,
         b"put 0100 = 1\nrestore drum\nwords 0100 2\nrestore two lines\ntranscript\n",
         b"> put 0100 = 1\nok\n> restore drum\nrestored 2\n> words 0100 2\n0100 00000004\n0101 00000008\n? restore two lines\n? 1 Form: line 1 is not a line of a dump\n        two lines\n> transcript\nput 0100 00000002\nput 0100 00000004\nput 0101 00000008\nwords 0100 2\n",
-        1,
+        true,
     ),
     (
         Manner::Bare,
         b"put 0000 = 1\nrestore empty\nwords 0000 1\nrestore none\n",
         b"ok\nrestored 1\n0000 00000000\n? 13 File none: it cannot be opened\n",
-        1,
+        true,
     ),
     // At work neither the drum is restored nor a tape is mounted.
     (
         Manner::Bare,
         b"press start\nrestore drum\ntape tape\ntape longer\n",
         b"live\n? 2 Moving: the machine is running; press manual to halt it\n        drum\n? 2 Moving: the machine is running; press manual to halt it\n        tape\n? 2 Moving: the machine is running; press manual to halt it\n        longer\n",
-        3,
+        true,
     ),
     // A tape of bytes, one with a byte that is no code, and one that is longer than a line.
     (
         Manner::Echoing,
         b"bytes coded\nbytes strange\nbytes none\nbytes blank\ntranscript\n",
         b"> mount 12[16]3'\nok 5\n? 13 File strange: the byte at place 2, counting from 0, is above 63\n? 13 File none: it cannot be opened\n> tape blank\nok 1024\n> transcript\nmount 12[16]3'\ntape blank\n",
-        2,
+        true,
     ),
     // What SIMH shows, and what it is given; the first line that is neither.
     (
         Manner::Echoing,
         b"put 0100 = 1\nrestore-simh shown\nwords 0100 2\ntranscript\n",
         b"> put 0100 = 1\nok\n> restore-simh shown\nrestored 2\n> words 0100 2\n0100 0000000j\n0101 00000008\n> transcript\nput 0100 00000002\nput 0100 0000000j\nput 0101 00000008\nwords 0100 2\n",
-        0,
+        false,
     ),
     (
         Manner::Bare,
         b"put 0100 = 1\nrestore-simh drum\nrestore-simh backwards\nrestore-simh none\nwords 0100 2\nrestore-simh empty\nwords 0100 1\n",
         b"ok\n? 13 File drum: line 1 is not a word in the form that SIMH shows or accepts\n? 13 File backwards: the address of line 2 is not above that of the line before it\n? 13 File none: it cannot be opened\n0100 00000002\n0101 00000000\nrestored 1\n0100 00000000\n",
-        3,
+        true,
     ),
     (
         Manner::Echoing,
         b"press start\nrestore-simh shown\nbytes coded\n",
         b"> press start\nlive\n? restore-simh shown\n? 2 Moving: the machine is running; press manual to halt it\n        shown\n? mount 12[16]3'\n? 2 Moving: the machine is running; press manual to halt it\n        coded\n",
-        2,
+        true,
     ),
     // A tape for which a line has room, one that is longer, and one whose text is: their names are in the transcript.
     (
         Manner::Echoing,
         b"tape longer\narchive returns\nnew\ntape  longer \ntranscript\n",
         b"> tape longer\nok 4091\n> tape returns\nok 1023\n> new\nnew\n> tape longer\nok 4091\n> transcript\ntape longer\n",
-        0,
+        false,
     ),
     // The drum is kept, also at work, and what cannot be written is refused.
     (
         Manner::Bare,
         b"put 0100 00000004\nsave kept\npress start\nsave locked\ntranscript\n",
         b"ok\nsaved kept\nlive\n? 13 File locked: it cannot be written, and is unchanged\nput 0100 00000004\npress start\n",
-        1,
+        true,
     ),
     // Nothing is said to be kept that is not.
     (
         Manner::Bare,
         b"punch locked\ncopy-archive locked\ntranscript\n",
         b"? 13 File locked: it cannot be written, and is unchanged\n? 13 File locked: it cannot be written, and is unchanged\n",
-        2,
+        true,
     ),
 ];
 
@@ -345,7 +385,7 @@ fn fitting(alloc: Global, typed: &[u8], front: &[u8]) -> (bool, bool, usize) {
     let mut written = Vec::new(alloc);
     let answer = run(alloc, Manner::Bare, typed, &mut written);
     (
-        is_done(answer, 0),
+        is_done(answer, false),
         written.as_slice().starts_with(front),
         written.len(),
     )

@@ -21,11 +21,11 @@ fn expect_eq<T: PartialEq + Debug + Drop>(rt: &impl Abort, seen: T, wanted: T) {
     assert_eq!(rt; seen, wanted);
 }
 
-/// Whether this is the number of refused lines that a call answers.
+/// Whether this is what a call answers: how many lines are refused, or whether one is.
 #[cfg(test)]
-fn is_done(answer: Result<u64, StreamFault>, refused: u64) -> bool {
+fn is_done<T: PartialEq + Drop>(answer: Result<T, StreamFault>, refused: T) -> bool {
     match answer {
-        Ok(number) => number == refused,
+        Ok(seen) => seen == refused,
         Err(_) => false,
     }
 }
@@ -39,12 +39,16 @@ enum End {
     Otherwise,
 }
 
-/// How lines ended, of which a given number were to be refused in all.
+/// How lines ended, of which so many were to be refused in all, or any.
 #[cfg(test)]
-fn ended(has_refused: bool, answer: Result<u64, StreamFault>, refused: u64) -> End {
+fn ended<T: PartialEq + Drop>(
+    has_refused: bool,
+    answer: Result<T, StreamFault>,
+    refused: T,
+) -> End {
     match answer {
         Err(StreamFault::Memory) if has_refused => End::Refused,
-        Ok(number) if !has_refused && number == refused => End::Done,
+        Ok(seen) if !has_refused && seen == refused => End::Done,
         _ => End::Otherwise,
     }
 }

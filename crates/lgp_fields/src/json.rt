@@ -9,9 +9,9 @@ ghost use Rattle.lgp_word.specs.Digits.{address_digits};
 
 use crate::escaped::push_escaped;
 use crate::field::{Field, Value};
-use crate::numbers::{push_number, push_signed, push_wide, separator};
+use crate::numbers::{push_signed, push_wide, separator};
 use crate::texts::{push_escaped_labelled, push_escaped_order, push_escaped_pieces};
-use lgp_text::Piece;
+use lgp_text::{Piece, push_decimal};
 use lgp_word::{Address, write_bits};
 use std::alloc::{AllocError, Allocator};
 
@@ -36,7 +36,7 @@ fn push_json_number<A: Allocator>(text: &mut Vec<u8, A>, number: u64) -> Result<
 {
     let mark = number_mark(number >= 1 << 53);
     text.extend_from_slice(mark)?;
-    push_number(text, number)?;
+    push_decimal(text, number)?;
     text.extend_from_slice(mark)
 }
 

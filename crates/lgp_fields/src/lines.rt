@@ -6,8 +6,9 @@ ghost use Rattle.lgp_fields.specs.Seen.{field_seen, fields_seen, value_seen};
 
 use crate::escaped::push_escaped;
 use crate::field::{Field, Value};
-use crate::numbers::{push_number, push_numbers, push_signed, push_wide, push_wide_numbers};
+use crate::numbers::{push_numbers, push_signed, push_wide, push_wide_numbers};
 use crate::texts::{push_bits, push_escaped_labelled, push_escaped_order, push_escaped_pieces};
+use lgp_text::push_decimal;
 use std::alloc::{AllocError, Allocator};
 
 /// The word for yes or no.
@@ -25,7 +26,7 @@ fn push_value<A: Allocator>(text: &mut Vec<u8, A>, value: &Value) -> Result<(), 
 {
     match *value {
         Value::Nothing => Ok(()),
-        Value::Number(number) => push_number(text, number),
+        Value::Number(number) => push_decimal(text, number),
         Value::Signed(minus, size) => push_signed(text, minus, size),
         Value::YesNo(holds) => text.extend_from_slice(yes_text(holds)),
         Value::Wide(number) => push_wide(text, *number),

@@ -4,18 +4,8 @@ ghost use Rattle.std.specs.Prelude.{◌≡◌, ◌++◌, OnOk, codes, decimal, t
 ghost use Rattle.lgp_fields.specs.Printed.{numbers_text, separated, signed_text};
 
 use itoa::Buffer;
+use lgp_text::push_decimal;
 use std::alloc::{AllocError, Allocator};
-
-/// Appends a number in decimal.
-pub(crate) fn push_number<A: Allocator>(
-    text: &mut Vec<u8, A>,
-    number: u64,
-) -> Result<(), AllocError>
-    ensures { OnOk result (text.new.items ≡ text.old.items ++ decimal number) }
-{
-    let mut buffer = Buffer::new();
-    text.extend_from_slice(buffer.format(number).as_bytes())
-}
 
 /// Appends a number with its sign.
 #[tactic(auto, unfolding(crate::specs::Printed::signed_text))]
@@ -28,7 +18,7 @@ pub(crate) fn push_signed<A: Allocator>(
 {
     let sign: &[u8] = if minus { b"-" } else { b"" };
     text.extend_from_slice(sign)?;
-    push_number(text, size)
+    push_decimal(text, size)
 }
 
 /// What is in front of an item of a list.
@@ -51,7 +41,7 @@ pub(crate) fn push_numbers<A: Allocator>(
     let mut first = true;
     for number in numbers {
         text.extend_from_slice(separator(first, between))?;
-        push_number(text, *number)?;
+        push_decimal(text, *number)?;
         first = false;
     }
     Ok(())

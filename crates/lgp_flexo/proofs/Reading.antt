@@ -7,8 +7,8 @@ use Rattle.std.proofs.lemmas.List.{drop-drop, take_rest}
 use Rattle.lgp_flexo.specs.TapeText.{before, code_of_group, codes_of_sign, joined, single, text_from}
 use Rattle.lgp_flexo.specs.Archive.{archived_from, codes_of_archived}
 use Rattle.lgp_flexo.specs.PiecesInside.{archived_codes, archived_length, first_codes, own_codes, own_length, piece_length, read_from, rest_from}
-use Rattle.lgp_flexo.specs.declared.pieces.Form.{Form}
-use Rattle.lgp_flexo.specs.declared.pieces.Form.TheVariants.{Own, Archived}
+use Rattle.lgp_flexo.specs.declared.pieces.TextForm.{TextForm}
+use Rattle.lgp_flexo.specs.declared.pieces.TextForm.TheVariants.{Own, Archived}
 
 -- this many codes in front of what follows
 abbrev pub added : ℕ → Result ℕ ℕ → Result ℕ ℕ
@@ -16,7 +16,7 @@ added count (Ok following) = Ok (count + following)
 added count (Err bad) = Err bad
 
 -- an empty text stands for nothing
-read_from-nothing : (form : Form) (place : ℕ) → read_from form place [] ≡ Ok []
+read_from-nothing : (form : TextForm) (place : ℕ) → read_from form place [] ≡ Ok []
 unfolding text_from archived_from
 read_from-nothing Own place = refl
 read_from-nothing Archived place = refl
@@ -49,17 +49,17 @@ archived_from-piece place (a ∷ b ∷ c ∷ rest) some = by_group (a == byte "!
   by_group true = refl
   by_group false = refl
 
-read_from-piece : (form : Form) (place : ℕ) (text : List ℕ) → 0 < length text
+read_from-piece : (form : TextForm) (place : ℕ) (text : List ℕ) → 0 < length text
     → read_from form place text ≡ joined place (first_codes form text) (read_from form (place + piece_length form text) (drop (piece_length form text) text))
 read_from-piece Own place text some = text_from-piece place text some
 read_from-piece Archived place text some = archived_from-piece place text some
 
 -- after its end a text stands for nothing
-pub rest_from_end : (form : Form) (text : List ℕ) (place : ℕ) → length text ≤ place → rest_from form text place ≡ Ok []
+pub rest_from_end : (form : TextForm) (text : List ℕ) (place : ℕ) → length text ≤ place → rest_from form text place ≡ Ok []
 rest_from_end form text place past = ap (read_from form place) (drop_of_length-le text past) ∙ read_from-nothing form place
 
 -- the same from a place on
-rest_from-piece : (form : Form) (text : List ℕ) (place : ℕ) → place < length text
+rest_from-piece : (form : TextForm) (text : List ℕ) (place : ℕ) → place < length text
     → rest_from form text place ≡ joined place (first_codes form (drop place text)) (rest_from form text (place + piece_length form (drop place text)))
 rest_from-piece form text place within =
     let some : 0 < length (drop place text) = omega (arith, length-drop place text) in
@@ -68,7 +68,7 @@ rest_from-piece form text place within =
     (drop-drop (piece_length form (drop place text)) place text)
 
 -- the same where the piece is there, as the code reads it, and where none is there
-pub rest_from-some : (form : Form) (text codes : List ℕ) (place past : ℕ) → place < length text
+pub rest_from-some : (form : TextForm) (text codes : List ℕ) (place past : ℕ) → place < length text
     → Some codes ≡ first_codes form (take (length text - place) (drop place text))
     → past ≡ piece_length form (take (length text - place) (drop place text))
     → rest_from form text place ≡ before codes (rest_from form text (place + past))
@@ -80,7 +80,7 @@ rest_from-some form text codes place past within piece is =
     ∙ ap (λ p. joined place p (rest_from form text (place + piece_length form (drop place text)))) found
     ∙ ap (λ n. before codes (rest_from form text (place + n))) long
 
-pub rest_from-none : (form : Form) (text : List ℕ) (place : ℕ) → place < length text
+pub rest_from-none : (form : TextForm) (text : List ℕ) (place : ℕ) → place < length text
     → None ≡ first_codes form (take (length text - place) (drop place text))
     → rest_from form text place ≡ Err place
 rest_from-none form text place within none =

@@ -4,15 +4,15 @@ use Rattle.std.specs.Prelude.{Err, List, [], ◌∷◌, length, drop, option_map
 use Rattle.std.specs.Str.{byte}
 use Rattle.lgp_flexo.specs.TapeText.{code_of_group, codes_of_sign, single, text_from}
 use Rattle.lgp_flexo.specs.Archive.{archived_from, codes_of_archived}
-use Rattle.lgp_flexo.specs.declared.pieces.Form.{Form}
-use Rattle.lgp_flexo.specs.declared.pieces.Form.TheVariants.{Own, Archived}
+use Rattle.lgp_flexo.specs.declared.pieces.TextForm.{TextForm}
+use Rattle.lgp_flexo.specs.declared.pieces.TextForm.TheVariants.{Own, Archived}
 
 -- what a text of a form stands for from a place on at which a piece begins
-abbrev pub read_from : Form → ℕ → List ℕ → Result (List ℕ) ℕ
+abbrev pub read_from : TextForm → ℕ → List ℕ → Result (List ℕ) ℕ
 read_from Own place text = text_from place text
 read_from Archived place text = archived_from place text
 
-abbrev pub rest_from : Form → List ℕ → ℕ → Result (List ℕ) ℕ
+abbrev pub rest_from : TextForm → List ℕ → ℕ → Result (List ℕ) ℕ
 rest_from form text place = read_from form place (drop place text)
 
 -- how many codes it stands for
@@ -48,10 +48,10 @@ archived_codes (sign ∷ bytes) = codes_of_archived sign
 archived_codes [] = None
 
 -- the same of a text of a form
-abbrev pub piece_length : Form → List ℕ → ℕ
+abbrev pub piece_length : TextForm → List ℕ → ℕ
 piece_length Own text = own_length text
 piece_length Archived text = archived_length text
 
-abbrev pub first_codes : Form → List ℕ → Option (List ℕ)
+abbrev pub first_codes : TextForm → List ℕ → Option (List ℕ)
 first_codes Own text = own_codes text
 first_codes Archived text = archived_codes text

@@ -6,7 +6,7 @@ ghost use Rattle.lgp_flexo.specs.PiecesInside.{archived_codes, archived_length};
 ghost use Rattle.lgp_flexo.specs.TapeText.{tape_limit};
 
 use crate::code::{Code, code_of};
-use crate::pieces::{Form, Piece, code_of_group};
+use crate::pieces::{Piece, TextForm, code_of_group};
 use crate::tape_text::{TextFault, read_text};
 use std::alloc::Allocator;
 
@@ -100,5 +100,5 @@ pub fn read_archive_text<A: Allocator + Copy>(
     ensures too_long { IsErrOf result TextFault.TooLong
         ↔ IsOkAnd (codes_of_archive text.now) (λ codes. tape_limit < length codes) }
 {
-    read_text(alloc, Form::Archived, text)
+    read_text(alloc, TextForm::Archived, text)
 }

@@ -12,7 +12,7 @@ use std::alloc::{AllocError, Allocator};
 
 /// A form in which a text stands for a tape.
 #[derive(Clone, Copy)]
-pub enum Form {
+pub enum TextForm {
     /// The form of this project's own.
     Own,
     /// The form of archives.
@@ -35,20 +35,20 @@ pub fn code_of_group(tens: u8, units: u8) -> Option<Code>
 }
 
 /// The first piece of a text.
-fn first_piece(form: Form, text: &[u8]) -> Option<Piece>
+fn first_piece(form: TextForm, text: &[u8]) -> Option<Piece>
     requires { 0 < length text.now }
     ensures codes { option_map (λ piece. option_to_list piece.code) result
         ≡ first_codes form text.now }
     ensures past { IfSome result (λ piece. piece.past ≡ piece_length form text.now) }
 {
     match form {
-        Form::Own => own_piece(text),
-        Form::Archived => archived_piece(text),
+        TextForm::Own => own_piece(text),
+        TextForm::Archived => archived_piece(text),
     }
 }
 
 /// The piece that begins at a place of a text.
-fn piece_from(form: Form, text: &[u8], place: usize) -> Option<Piece>
+fn piece_from(form: TextForm, text: &[u8], place: usize) -> Option<Piece>
     requires { place < length text.now }
     ensures none { IfNone result (rest_from form text.now place ≡ Err place) }
     ensures some { IfSome result (λ piece. rest_from form text.now place
@@ -64,7 +64,7 @@ fn piece_from(form: Form, text: &[u8], place: usize) -> Option<Piece>
 
 /// How many codes a text stands for, or its first bad place.
 #[tactic(auto, using(crate::proofs::Reading::rest_from_end))]
-pub fn count_codes(form: Form, text: &[u8]) -> Result<usize, usize>
+pub fn count_codes(form: TextForm, text: &[u8]) -> Result<usize, usize>
     ensures { result ≡ counted (rest_from form text.now 0) }
 {
     let mut count = 0;
@@ -84,7 +84,7 @@ pub fn count_codes(form: Form, text: &[u8]) -> Result<usize, usize>
 /// The codes of a text that is in order and stands for this many.
 pub fn collect_codes<A: Allocator + Copy>(
     alloc: A,
-    form: Form,
+    form: TextForm,
     text: &[u8],
     count: usize,
 ) -> Result<Vec<Code, A>, AllocError>

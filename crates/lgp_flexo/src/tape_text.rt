@@ -6,7 +6,7 @@ ghost use Rattle.lgp_flexo.specs.TapeText.{codes_of_sign, codes_of_text, tape_li
 ghost use Rattle.lgp_flexo.specs.PiecesInside.{own_codes, own_length, rest_from};
 
 use crate::code::{Code, code_of, sign_byte};
-use crate::pieces::{Form, Piece, code_of_group, collect_codes, count_codes};
+use crate::pieces::{Piece, TextForm, code_of_group, collect_codes, count_codes};
 use std::alloc::{AllocError, Allocator};
 use thiserror::Error;
 
@@ -61,7 +61,7 @@ pub fn own_piece(text: &[u8]) -> Option<Piece>
 /// Reads a tape's text of a form. Memory is asked for only when the text is found to be in order.
 pub fn read_text<A: Allocator + Copy>(
     alloc: A,
-    form: Form,
+    form: TextForm,
     text: &[u8],
 ) -> Result<Vec<Code, A>, TextFault>
     ensures codes { IfOk result (λ codes. rest_from form text.now 0 ≡ Ok codes.items) }
@@ -89,7 +89,7 @@ pub fn read_tape_text<A: Allocator + Copy>(alloc: A, text: &[u8]) -> Result<Vec<
     ensures too_long { IsErrOf result TextFault.TooLong
         ↔ IsOkAnd (codes_of_text text.now) (λ codes. tape_limit < length codes) }
 {
-    read_text(alloc, Form::Own, text)
+    read_text(alloc, TextForm::Own, text)
 }
 
 /// Writes a code with a sign as that sign, any other as a group.

@@ -44,7 +44,7 @@ clock-last rs i r in_order at =
     rw last (in_order i (length rs - 1) r _ (omega arith) at last)
 
 -- the last step began no later than now
-pub last-led : (rs : List Recorded) (s : State) → Leads (read rs s) s → last_clock rs ≤ s.clock
+last-led : (rs : List Recorded) (s : State) → Leads (read rs s) s → last_clock rs ≤ s.clock
 last-led rs s led =
     elim (slice_get rs (length rs - 1)) as (λ o. slice_get rs (length rs - 1) ≡ o → clock_or_none o ≤ s.clock) [
       | None ↦ λ e. omega arith
@@ -86,7 +86,7 @@ module _ (rs : List Recorded) (changes : List ℕ) (before : ℕ) (r : Recorded)
       (λ h. let same = ap (λ (y : Recorded). y.mark.clock) h.1 in let last = noted.last in absurd (omega arith))
       (get-more rs r (from + i) x (kept-at i x at))
 
-  pub noted-more : AreNoted (keep_last capacity (rs ++ r ∷ [])) changes before
+  noted-more : AreNoted (keep_last capacity (rs ++ r ∷ [])) changes before
   noted-more =
       let last = noted.last in
       record {
@@ -106,7 +106,7 @@ none-noted changes places = record {
 }
 
 -- where no earlier step changed the word either
-pub none-earlier : (address : ℕ) (rs : List Recorded) (now : State) (n : ℕ) → Leads (read rs now) now → n ≤ length rs → latest_change address (read (drop n rs) now) ≡ None
+none-earlier : (address : ℕ) (rs : List Recorded) (now : State) (n : ℕ) → Leads (read rs now) now → n ≤ length rs → latest_change address (read (drop n rs) now) ≡ None
     → ((i : ℕ) → (r : Recorded) → i < n → slice_get rs i ≡ Some r → lost_at r.lost address ≡ None) → latest_change address (read rs now) ≡ None
 none-earlier address rs now zero led within none stays = none
 none-earlier address rs now (suc n) led within none stays =

@@ -10,8 +10,8 @@ use Rattle.lgp_flexo.specs.Tape.{Tape, all_codes, passing, tape_after_input}
 use Rattle.lgp_table.specs.State.{Core, State, word_at}
 use Rattle.lgp_table.specs.Rows.{row}
 use Rattle.lgp_table.specs.Activity.{after_fetch, begun_in, core_after, core_after_begun, print_of}
-use Rattle.lgp_table.specs.Console.{desk_after, effect_on}
-use Rattle.lgp_table.specs.Interleaving.{desk_of}
+use Rattle.lgp_table.specs.Console.{console_after, effect_on}
+use Rattle.lgp_table.specs.Interleaving.{console_of}
 use Rattle.lgp_table.specs.declared.action.Action.{Action}
 use Rattle.lgp_table.specs.declared.action.Action.TheVariants as actions
 use Rattle.lgp_table.specs.declared.panel.Status.{Status}
@@ -130,7 +130,7 @@ tape_after Executing core =
 tape_after Waiting core = same_tape _ _
 tape_after Reading core = input_tape _
 
-effect_tape : (s : State) (action : Action) → IsLaterTape s.core.tape (effect_on (desk_of s) action).tape
+effect_tape : (s : State) (action : Action) → IsLaterTape s.core.tape (effect_on (console_of s) action).tape
 effect_tape s (actions.Mode mode) = same_tape _ _
 effect_tape s actions.Start = same_tape _ _
 effect_tape s actions.ClearCounter = same_tape _ _
@@ -143,7 +143,7 @@ effect_tape s (actions.BreakPoint which down) = same_tape _ _
 effect_tape s (actions.Transfer down) = same_tape _ _
 effect_tape s (actions.SixBit down) = same_tape _ _
 
-action_tape : (s : State) (action : Action) → IsLaterTape s.core.tape (desk_after (desk_of s) action).tape
+action_tape : (s : State) (action : Action) → IsLaterTape s.core.tape (console_after (console_of s) action).tape
 action_tape s action =
     grind (arith, effect_tape, same_tape)
 

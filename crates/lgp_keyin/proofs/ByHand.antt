@@ -16,8 +16,8 @@ use Rattle.lgp_flexo.proofs.WordCodes.{word_keyed, word_no_stop, word_not_skippe
 use Rattle.lgp_table.specs.State.{Core, State, core_of}
 use Rattle.lgp_table.specs.Rows.{row}
 use Rattle.lgp_table.specs.Activity.{core_after, next, print_of}
-use Rattle.lgp_table.specs.Console.{Desk, desk_after, is_at_rest, status_in_mode}
-use Rattle.lgp_table.specs.Interleaving.{Configuration, at_boundary, desk_of, with_desk}
+use Rattle.lgp_table.specs.Console.{Console, console_after, is_at_rest, status_in_mode}
+use Rattle.lgp_table.specs.Interleaving.{Configuration, at_boundary, console_of, with_console}
 use Rattle.lgp_table.specs.declared.action.Action.{Action}
 use Rattle.lgp_table.specs.declared.action.Action.TheVariants as actions
 use Rattle.lgp_table.specs.declared.panel.Cause.{Cause}
@@ -66,32 +66,32 @@ in_manual panel cause accumulator = record panel {
   switches = record panel.switches { six_bit = false };
 }
 
-abbrev manual_desk : Panel → Tape → Cause → ℕ → Desk
-manual_desk panel tape cause accumulator = record { panel = in_manual panel cause accumulator; tape = tape }
+abbrev manual_console : Panel → Tape → Cause → ℕ → Console
+manual_console panel tape cause accumulator = record { panel = in_manual panel cause accumulator; tape = tape }
 
 key_struck : (panel : Panel) (tape : Tape) (cause : Cause) (accumulator code : ℕ) → is_stop code ≡ false → is_skipped code ≡ false
-    → desk_after (manual_desk panel tape cause accumulator) (actions.Key code)
-    ≡ manual_desk panel tape cause (accumulator_after false accumulator code)
+    → console_after (manual_console panel tape cause accumulator) (actions.Key code)
+    ≡ manual_console panel tape cause (accumulator_after false accumulator code)
 key_struck panel tape cause accumulator code no_stop not_skipped = rw (not_skipped, no_stop) refl
 
 keys_struck : (panel : Panel) (tape : Tape) (cause : Cause) (accumulator : ℕ) (codes : List ℕ) → list_any is_stop codes ≡ false → list_any is_skipped codes ≡ false
-    → fold desk_after (manual_desk panel tape cause accumulator) (map (λ code. actions.Key code) codes)
-    ≡ manual_desk panel tape cause (fold (accumulator_after false) accumulator codes)
+    → fold console_after (manual_console panel tape cause accumulator) (map (λ code. actions.Key code) codes)
+    ≡ manual_console panel tape cause (fold (accumulator_after false) accumulator codes)
 keys_struck panel tape cause accumulator [] no_stop not_skipped = refl
 keys_struck panel tape cause accumulator (code ∷ codes) no_stop not_skipped =
     let (stop, stops) = or_parts _ _ no_stop in
     let (skip, skips) = or_parts _ _ not_skipped in
-    ap (λ (desk : Desk). fold desk_after desk (map (λ code. actions.Key code) codes)) (key_struck panel _ _ _ _ stop skip)
+    ap (λ (console : Console). fold console_after console (map (λ code. actions.Key code) codes)) (key_struck panel _ _ _ _ stop skip)
     ∙ keys_struck panel tape cause (accumulator_after false accumulator code) codes stops skips
 
 word_struck : (panel : Panel) (tape : Tape) (cause : Cause) (accumulator word : ℕ) → IsWord word
-    → fold desk_after (manual_desk panel tape cause accumulator) (word_keys word) ≡ manual_desk panel tape cause word
+    → fold console_after (manual_console panel tape cause accumulator) (word_keys word) ≡ manual_console panel tape cause word
 word_struck panel tape cause accumulator word is =
     grind (arith, keys_struck, word_no_stop, word_not_skipped, word_keyed)
 
 -- a word struck, and whatever is pressed after it
 word_struck_then : (panel : Panel) (tape : Tape) (cause : Cause) (accumulator word : ℕ) (rest : List Action) → IsWord word
-    → fold desk_after (manual_desk panel tape cause accumulator) (word_keys word ++ rest) ≡ fold desk_after (manual_desk panel tape cause word) rest
+    → fold console_after (manual_console panel tape cause accumulator) (word_keys word ++ rest) ≡ fold console_after (manual_console panel tape cause word) rest
 word_struck_then panel tape cause accumulator word rest is =
     grind (arith, fold-append, word_struck)
 
@@ -108,16 +108,16 @@ manual_halts Executing = refl
 manual_halts Waiting = refl
 manual_halts Reading = refl
 
-manual_pressed : (desk : Desk) → desk.panel.switches.six_bit ≡ false
-    → desk_after desk (actions.Mode Manual) ≡ manual_desk desk.panel desk.tape (cause_in_manual desk.panel.status) desk.panel.accumulator
-manual_pressed desk up =
+manual_pressed : (console : Console) → console.panel.switches.six_bit ≡ false
+    → console_after console (actions.Mode Manual) ≡ manual_console console.panel console.tape (cause_in_manual console.panel.status) console.panel.accumulator
+manual_pressed console up =
     grind (arith, manual_halts, cause_in_manual)
 
 -- an order filled into the instruction register, and whatever is pressed after it
-order_filled : (desk : Desk) (order : ℕ) (rest : List Action) → desk.panel.switches.six_bit ≡ false → IsWord order
-    → fold desk_after desk (actions.Mode Manual ∷ (word_keys order ++ (actions.Fill ∷ rest)))
-    ≡ fold desk_after (manual_desk (record desk.panel { register = order }) desk.tape (cause_in_manual desk.panel.status) order) rest
-order_filled desk order rest up is =
+order_filled : (console : Console) (order : ℕ) (rest : List Action) → console.panel.switches.six_bit ≡ false → IsWord order
+    → fold console_after console (actions.Mode Manual ∷ (word_keys order ++ (actions.Fill ∷ rest)))
+    ≡ fold console_after (manual_console (record console.panel { register = order }) console.tape (cause_in_manual console.panel.status) order) rest
+order_filled console order rest up is =
     grind (arith, cause_in_manual, manual_pressed, word_struck_then, stored_word)
 
 -- about to perform an order from the instruction register
@@ -137,8 +137,8 @@ pub store_keyed : (s : State) (address word : ℕ) → s.core.panel.switches.six
     → about_to_store s address word ≡ about_to s (store_order address) word
 store_keyed s address word up within is =
     let order = store_order address in
-    ap (λ (desk : Desk). with_desk s desk)
-    (order_filled (desk_of s) _ _ up (store_is_word _ within)
+    ap (λ (console : Console). with_console s console)
+    (order_filled (console_of s) _ _ up (store_is_word _ within)
     ∙ word_struck_then (record s.core.panel { register = order }) _ _ _ _ _ is)
 
 -- what the panel shows then
@@ -150,7 +150,7 @@ shows_store now s address word at up within is =
 pub jump_keyed : (s : State) (address : ℕ) → s.core.panel.switches.six_bit ≡ false → IsAddress address
     → about_to_jump s address ≡ about_to s (jump_order address) (jump_order address)
 jump_keyed s address up within =
-    ap (λ (desk : Desk). with_desk s desk) (order_filled (desk_of s) _ _ up (jump_is_word _ within))
+    ap (λ (console : Console). with_console s console) (order_filled (console_of s) _ _ up (jump_is_word _ within))
 
 -- the order in the instruction register performed: a store
 pub core_stored : (core : Core) (address word : ℕ) → IsAddress address → IsWord word

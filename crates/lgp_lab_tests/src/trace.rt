@@ -3,6 +3,7 @@
 ghost use Rattle.std.specs.Prelude.{◌^◌, ◌<◌, IsTrue};
 ghost use Rattle.lgp_trace.specs.Phases.{all_phases};
 
+mod columns;
 mod growths;
 mod optimum;
 mod ranking;

@@ -1,6 +1,6 @@
 //! Each action where it is live and where it is dead, and the latch.
 
-mod desk;
+mod actions;
 mod latch;
 
 use lgp_flexo::Code;

@@ -1,6 +1,6 @@
--- A text that is taken byte by byte: its complete lines, and the piece of a line after them.
+-- A text that is taken line by line.
 use Rattle.std.proofs.Common.{◌≡◌, ℕ, ◌+◌, Bool, true, false, cond, List, [], ◌∷◌, ◌++◌, length, take, count_by, refl, sym, ap, ◌∙◌, eqb, append_assoc, length-append, add-zero}
-use Rattle.std.specs.List.{AllByRecursion, onto_first, slice_split}
+use Rattle.std.specs.List.{onto_first, slice_split}
 use Rattle.std.specs.Str.Lines.{lines, lines_of_parts, strip_carriage_return}
 use Rattle.std.proofs.lemmas.List.{append-nil}
 use Rattle.std.proofs.lemmas.List.Sums.{sum_by-append}
@@ -8,16 +8,17 @@ use Rattle.std.proofs.lemmas.List.Splits.{slice_split_at, slice_split_none}
 use Rattle.std.proofs.lemmas.List.Elements.{All-from_recursion}
 use Rattle.std.proofs.Math.Seq.{take-append_seam}
 use Rattle.lgp_stream.specs.Language.{complete_lines, is_line_feed}
-use Rattle.lgp_stream.specs.StreamInside.{IsCut}
+use Rattle.lgp_stream.specs.Transcript.{IsLine}
 
--- no byte of a piece of a line is a line feed
-unfoldable pub IsOpen : List ℕ → Type 0
-IsOpen piece = AllByRecursion (λ byte. eqb byte 10 ≡ false) piece
+-- bytes are these complete lines, whatever follows them
+pub record IsCut (bytes : List ℕ) (complete : List (List ℕ)) : Type 0 where
+  pub cut : (more : List ℕ) → lines (bytes ++ more) ≡ complete ++ lines more
+  pub feeds : count_by is_line_feed bytes ≡ length complete
 
-pub IsOpen-push : (piece : List ℕ) (byte : ℕ) → IsOpen piece → eqb byte 10 ≡ false → IsOpen (piece ++ byte ∷ [])
-unfolding IsOpen
-IsOpen-push [] byte free other = (other, tt)
-IsOpen-push (first ∷ piece) byte free other = (free.0, IsOpen-push piece byte free.1 other)
+-- a byte more of a line
+pub IsLine-push : (line : List ℕ) (byte : ℕ) → IsLine line → eqb byte 10 ≡ false → IsLine (line ++ byte ∷ [])
+IsLine-push [] byte free other = (other, tt)
+IsLine-push (first ∷ line) byte free other = (free.0, IsLine-push line byte free.1 other)
 
 -- the parts of a text are at least one
 data IsSplit : List (List ℕ) → Type 0 where
@@ -34,47 +35,38 @@ slice_split-parts (byte ∷ bytes) = by_feed (eqb byte 10) (slice_split (λ byte
 lines_of_parts-more : (line : List ℕ) (rest : List (List ℕ)) → IsSplit rest → lines_of_parts (line ∷ rest) ≡ strip_carriage_return line ∷ lines_of_parts rest
 lines_of_parts-more line _ (parts first more) = refl
 
-pub lines-feed : (piece bytes : List ℕ) → IsOpen piece → lines (piece ++ 10 ∷ bytes) ≡ strip_carriage_return piece ∷ lines bytes
-unfolding IsOpen
-lines-feed piece bytes free =
-    rw (slice_split_at _ _ 10 bytes (All-from_recursion (λ byte. eqb byte 10 ≡ false) piece free) refl)
-    (lines_of_parts-more piece _ (slice_split-parts bytes))
+pub lines-feed : (line bytes : List ℕ) → IsLine line → lines (line ++ 10 ∷ bytes) ≡ strip_carriage_return line ∷ lines bytes
+lines-feed line bytes free =
+    rw (slice_split_at _ _ 10 bytes (All-from_recursion (λ byte. eqb byte 10 ≡ false) line free) refl)
+    (lines_of_parts-more line _ (slice_split-parts bytes))
 
-pub lines-open : (piece : List ℕ) → IsOpen piece → lines piece ≡ cond (eqb (length piece) 0) [] (piece ∷ [])
-unfolding IsOpen
-lines-open piece free = rw (slice_split_none _ piece (All-from_recursion (λ byte. eqb byte 10 ≡ false) piece free)) refl
+pub lines-open : (line : List ℕ) → IsLine line → lines line ≡ cond (eqb (length line) 0) [] (line ∷ [])
+lines-open line free = rw (slice_split_none _ line (All-from_recursion (λ byte. eqb byte 10 ≡ false) line free)) refl
 
 feeds-append : (bytes more : List ℕ) → count_by is_line_feed (bytes ++ more) ≡ count_by is_line_feed bytes + count_by is_line_feed more
 feeds-append bytes more = sum_by-append (λ byte. cond (is_line_feed byte) 1 0) bytes more
 
--- no bytes; one byte more; a line feed more
-pub IsCut-none : IsCut [] [] []
-IsCut-none = record { cut = λ more. refl; feeds = refl; is_open = tt }
+feeds-line : (line : List ℕ) → IsLine line → count_by is_line_feed line ≡ 0
+feeds-line [] free = refl
+feeds-line (byte ∷ line) free = rw free.0 (feeds-line line free.1)
 
-pub IsCut-push : (bytes : List ℕ) (complete : List (List ℕ)) (piece : List ℕ) (byte : ℕ) → IsCut bytes complete piece → eqb byte 10 ≡ false → IsCut (bytes ++ byte ∷ []) complete (piece ++ byte ∷ [])
-unfolding IsOpen
-IsCut-push bytes complete piece byte is_cut other = record {
-  cut = λ more. rw (append_assoc bytes (byte ∷ []) more, append_assoc piece (byte ∷ []) more) (is_cut.cut (byte ∷ more));
-  feeds = rw (feeds-append _ _, other, add-zero (count_by is_line_feed bytes)) is_cut.feeds;
-  is_open = IsOpen-push piece byte is_cut.is_open other;
+-- no bytes; a line and its line feed more
+pub IsCut-none : IsCut [] []
+IsCut-none = record { cut = λ more. refl; feeds = refl }
+
+pub IsCut-feed : (bytes : List ℕ) (complete : List (List ℕ)) (line : List ℕ) → IsCut bytes complete → IsLine line → IsCut (bytes ++ (line ++ 10 ∷ [])) (complete ++ strip_carriage_return line ∷ [])
+IsCut-feed bytes complete line is_cut free = record {
+  cut = λ more. rw (append_assoc bytes (line ++ 10 ∷ []) more, append_assoc line (10 ∷ []) more, append_assoc complete (strip_carriage_return line ∷ []) (lines more), ← lines-feed line more free) (is_cut.cut (line ++ 10 ∷ more));
+  feeds = rw (feeds-append bytes (line ++ 10 ∷ []), feeds-append line (10 ∷ []), feeds-line line free, length-append complete (strip_carriage_return line ∷ []), is_cut.feeds) refl;
 }
 
-pub IsCut-feed : (bytes : List ℕ) (complete : List (List ℕ)) (piece : List ℕ) → IsCut bytes complete piece → IsCut (bytes ++ 10 ∷ []) (complete ++ strip_carriage_return piece ∷ []) []
-unfolding IsOpen
-IsCut-feed bytes complete piece is_cut = record {
-  cut = λ more. rw (append_assoc bytes (10 ∷ []) more, append_assoc complete (strip_carriage_return piece ∷ []) (lines more), ← lines-feed _ _ is_cut.is_open) (is_cut.cut (10 ∷ more));
-  feeds = rw (feeds-append _ _, length-append complete (strip_carriage_return piece ∷ []), is_cut.feeds) refl;
-  is_open = tt;
-}
+pub IsCut-lines : (bytes : List ℕ) (complete : List (List ℕ)) → IsCut bytes complete → lines bytes ≡ complete
+IsCut-lines bytes complete is_cut = ap lines (sym (append-nil bytes)) ∙ (is_cut.cut [] ∙ append-nil complete)
 
--- the lines of bytes: the complete ones, and the piece, if there is any
-pub IsCut-lines : (bytes : List ℕ) (complete : List (List ℕ)) (piece : List ℕ) → IsCut bytes complete piece → lines bytes ≡ complete ++ cond (eqb (length piece) 0) [] (piece ∷ [])
-unfolding IsOpen
-IsCut-lines bytes complete piece is_cut =
-    ap lines (sym (append-nil bytes)) ∙ (is_cut.cut [] ∙ ap (λ (rest : List (List ℕ)). complete ++ rest) (ap lines (append-nil piece) ∙ lines-open _ is_cut.is_open))
-
-pub IsCut-complete : (bytes : List ℕ) (complete : List (List ℕ)) (piece : List ℕ) → IsCut bytes complete piece → complete_lines bytes ≡ complete
-IsCut-complete bytes complete piece is_cut =
-    ap (λ (n : ℕ). take n (lines bytes)) is_cut.feeds
-    ∙ (ap (λ (all : List (List ℕ)). take (length complete) all) (IsCut-lines bytes complete piece is_cut)
-    ∙ take-append_seam complete (cond (eqb (length piece) 0) [] (piece ∷ [])))
+-- the complete lines where a line has begun after them
+pub IsCut-complete : (bytes : List ℕ) (complete : List (List ℕ)) (line : List ℕ) → IsCut bytes complete → IsLine line → complete_lines (bytes ++ line) ≡ complete
+IsCut-complete bytes complete line is_cut free =
+    let feeds : count_by is_line_feed (bytes ++ line) ≡ length complete = rw (feeds-append bytes line, feeds-line line free, add-zero (count_by is_line_feed bytes)) is_cut.feeds in
+    ap (λ (n : ℕ). take n (lines (bytes ++ line))) feeds
+    ∙ (ap (λ (all : List (List ℕ)). take (length complete) all) (is_cut.cut line)
+    ∙ take-append_seam complete (lines line))

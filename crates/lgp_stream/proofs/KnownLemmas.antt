@@ -1,6 +1,6 @@
 -- What is known of bytes read and written, one call after another.
 use Rattle.std.proofs.Common.{◌≡◌, ℕ, ◌+◌, ◌-◌, Option, Some, None, List, [], ◌++◌, length, take, drop, refl, sym, ap, ◌∙◌, append_assoc}
-use Rattle.std.specs.Io.KnownBytes.{Appends, Consumes, Keeps}
+use Rattle.std.specs.Io.KnownBytes.{Appends, Consumes}
 use Rattle.std.proofs.lemmas.List.{append-nil, take_rest}
 use Rattle.std.proofs.Math.Seq.{take-add}
 
@@ -27,8 +27,3 @@ Consumes-none (Some us) = refl
 -- a front and a piece after it
 pub take-piece : (bytes : List ℕ) (taken count : ℕ) → take (taken + count) bytes ≡ take taken bytes ++ take count (take (length bytes - taken) (drop taken bytes))
 take-piece bytes taken count = rw (take_rest bytes taken) (take-add taken count bytes)
-
-pub Consumes-kept : (a b : Option (List ℕ)) → Keeps a b → Consumes a b []
-Consumes-kept None b kept = tt
-Consumes-kept (Some us) None kept = absurd kept
-Consumes-kept (Some us) (Some vs) kept = sym kept

@@ -3,7 +3,7 @@ pub mod KnownLemmas
 pub mod FrontLemmas
 pub mod LineLemmas
 pub mod CutLemmas
-pub mod SpeechLemmas
+pub mod ReadingLemmas
 pub mod FirstLines
 pub mod StreamLemmas
 pub mod StandIns

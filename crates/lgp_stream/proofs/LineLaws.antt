@@ -5,20 +5,13 @@ use Rattle.std.specs.Str.Lines.{lines, lines_of_parts, strip_carriage_return}
 use Rattle.std.proofs.lemmas.List.{append-nil}
 use Rattle.std.proofs.Math.Seq.{get_or-append_seam, take-append_seam}
 use Rattle.lgp_stream.specs.Language.{Language, state_after}
-use Rattle.lgp_stream.specs.StreamInside.{IsCut}
-use Rattle.lgp_stream.proofs.CutLemmas.{IsCut-feed, IsCut-lines, IsCut-none, IsCut-push}
+use Rattle.lgp_stream.proofs.CutLemmas.{IsCut, IsCut-feed, IsCut-lines, IsCut-none, IsLine-push}
 use Rattle.lgp_stream.specs.Transcript.{AreLines, HasMeanings, IsLine, IsReportedByTranscript, Meaning, Anew, Lines, Recorded, StandForLines, after_lines, after_meaning, ended, untouched}
 
--- ---- a line after complete ones
+-- ---- a line more in a transcript
 
 abbrev ends_with_return : List ℕ → Bool
 ends_with_return line = get_or line (length line - 1) 0 == 13
-
-IsCut-all : (bytes : List ℕ) (complete : List (List ℕ)) (piece line : List ℕ) → IsCut bytes complete piece → IsLine line → IsCut (bytes ++ line) complete (piece ++ line)
-IsCut-all bytes complete piece [] cut free = rw (append-nil bytes, append-nil piece) cut
-IsCut-all bytes complete piece (b ∷ line) cut free =
-    rw (append_assoc bytes (b ∷ []) line, append_assoc piece (b ∷ []) line) at
-    (IsCut-all (bytes ++ b ∷ []) complete (piece ++ b ∷ []) line (IsCut-push bytes complete piece b cut free.0) free.1)
 
 last-return : (line : List ℕ) → get_or (line ++ 13 ∷ []) (length (line ++ 13 ∷ []) - 1) 0 ≡ 13
 last-return line =
@@ -33,28 +26,22 @@ front-return line =
 strip-return : (line : List ℕ) → strip_carriage_return (line ++ 13 ∷ []) ≡ line
 strip-return line = rw (last-return _) (front-return _)
 
-pub IsCut-ended : (bytes : List ℕ) (complete : List (List ℕ)) (line : List ℕ) → IsCut bytes complete [] → IsLine line → IsCut (bytes ++ ended line) (complete ++ line ∷ []) []
+IsCut-ended : (bytes : List ℕ) (complete : List (List ℕ)) (line : List ℕ) → IsCut bytes complete → IsLine line → IsCut (bytes ++ ended line) (complete ++ line ∷ [])
 unfolding ended
 IsCut-ended bytes complete line cut free = by_return (ends_with_return line) refl where
-  whole : IsCut (bytes ++ line) complete line
-  whole = IsCut-all bytes complete [] line cut free
-
-  by_return : (ends : Bool) → ends_with_return line ≡ ends → IsCut (bytes ++ (line ++ cond ends (13 ∷ 10 ∷ []) (10 ∷ []))) (complete ++ line ∷ []) []
+  by_return : (ends : Bool) → ends_with_return line ≡ ends → IsCut (bytes ++ (line ++ cond ends (13 ∷ 10 ∷ []) (10 ∷ []))) (complete ++ line ∷ [])
   by_return false e =
-      let done = IsCut-feed (bytes ++ line) complete line whole in
       let same : strip_carriage_return line ≡ line = rw e refl in
-      rw (append_assoc bytes line (10 ∷ []), same) at done
+      rw same at (IsCut-feed bytes complete line cut free)
   by_return true e =
-      let returned = IsCut-push (bytes ++ line) complete line 13 whole refl in
-      let done = IsCut-feed ((bytes ++ line) ++ 13 ∷ []) complete (line ++ 13 ∷ []) returned in
-      rw (append_assoc (bytes ++ line) (13 ∷ []) (10 ∷ []), append_assoc bytes line (13 ∷ 10 ∷ []), strip-return _) at done
+      rw (append_assoc line (13 ∷ []) (10 ∷ []), strip-return line) at (IsCut-feed bytes complete (line ++ 13 ∷ []) cut (IsLine-push line 13 free refl))
 
 -- ---- where lines of the other language lead
 
 -- the transcript is complete lines, which lead to the state reached
 pub record IsReported {S : Type 0} (language : Language S) (opening state : S) (transcript : List ℕ) : Type 0 where
   pub said : List (List ℕ)
-  pub cut : IsCut transcript said []
+  pub cut : IsCut transcript said
   pub stands : state ≡ state_after language opening said
 
 pub IsReported-none : {S : Type 0} (language : Language S) (opening : S) → IsReported language opening opening []
@@ -132,7 +119,7 @@ lines_are_lines text = free-lines (slice_split (λ byte. eqb byte 10) text) (fre
 
 pub IsReported-all : {S : Type 0} (language : Language S) (opening : S) (r : Recorded S) → IsReported language opening r.state r.transcript → IsReportedByTranscript language opening r
 IsReported-all {S} language opening r reported =
-    reported.stands ∙ ap (λ (said : List (List ℕ)). state_after language opening said) (sym (IsCut-lines r.transcript reported.said [] reported.cut ∙ append-nil reported.said))
+    reported.stands ∙ ap (λ (said : List (List ℕ)). state_after language opening said) (sym (IsCut-lines r.transcript reported.said reported.cut))
 
 pub reported_by_transcript : {S : Type 0} (language : Language S) (opening : S) (meaning : Recorded S → List ℕ → Meaning) (typed : Language (Recorded S)) → HasMeanings language opening meaning typed
     → StandForLines meaning → (text : List ℕ) → IsReportedByTranscript language opening (state_after typed (untouched opening) (lines text))

@@ -6,6 +6,7 @@ use Rattle.std.proofs.Math.Seq.{get_or-append_seam, take-append_seam, take-lengt
 use Rattle.std.proofs.lemmas.Bool.{cases_lt, eqb-true}
 use Rattle.std.proofs.lemmas.List.Folds.{list_all-append}
 use Rattle.std.specs.List.{list_all}
+use Rattle.std.specs.Str.Lines.{strip_carriage_return}
 use Rattle.lgp_stream.specs.LineWords.{is_space}
 use Rattle.lgp_stream.specs.KeptLine.{line_limit}
 use Rattle.lgp_stream.specs.KeptLine.{Kept, kept_of, kept_push}
@@ -86,6 +87,11 @@ whole-open_of line = by_return (ends_with_return line) refl where
   by_return : (ends : Bool) → ends_with_return line ≡ ends → cond ends (kept_push (kept_of (cond ends (take (length line - 1) line) line)) 13) (kept_of (cond ends (take (length line - 1) line) line)) ≡ kept_of line
   by_return true ends = kept_push-kept_of _ 13 ∙ ap kept_of (parted _ ends)
   by_return false ends = refl
+
+-- what is kept of a line that a line feed ends
+pub kept-open_of : (line : List ℕ) → (open_of line).kept ≡ kept_of (strip_carriage_return line)
+unfolding open_of
+kept-open_of line = refl
 
 open_of-push : (line : List ℕ) (byte : ℕ) → record { kept = cond (eqb byte 13) (kept_of line) (kept_of (line ++ byte ∷ [])); held = eqb byte 13 } ≡ open_of (line ++ byte ∷ [])
 unfolding open_of

@@ -2,7 +2,7 @@
 -- it.
 use Rattle.std.specs.Prelude.{◌≡◌, ℕ, ◌&&◌, ◌||◌, Bool, if◌then◌else◌, nat_le, nat_lt, List, []}
 use Rattle.std.specs.Prelude.{◌∷◌}
-use Rattle.std.specs.Prelude.{◌++◌, length, take}
+use Rattle.std.specs.Prelude.{◌++◌, ◌-◌, drop, length, take}
 use Rattle.std.specs.List.{list_all}
 use Rattle.std.specs.Str.Lines.{lines}
 use Rattle.lgp_stream.specs.LineWords.{is_space}
@@ -37,3 +37,4 @@ pub record IsFirstLine (text : List ℕ) (kept : Kept) (rest : List ℕ) : Type 
   pub first : List ℕ
   pub is_kept : kept ≡ kept_of first
   pub lines_are : lines text ≡ first ∷ lines rest
+  pub rest_is : rest ≡ drop (length text - length rest) text

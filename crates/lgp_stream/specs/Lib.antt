@@ -1,8 +1,9 @@
 pub mod LineWords
 pub mod KeptLine
+pub mod LineReading
 pub mod Language
-pub mod Speech
 pub mod OpenLineInside
-pub mod StreamInside
+pub mod ReadingInside
+pub mod AnsweringInside
 pub mod Transcript
 pub mod Lent

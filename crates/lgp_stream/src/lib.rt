@@ -4,19 +4,18 @@
 
 pub use feed::{Failed, Feed, FeedOf};
 pub use line::{FirstLine, LINE_LIMIT, LineBytes, first_line};
+pub use line_reader::{CHUNK, LineReader};
 pub use recorder::Recorder;
 pub use sink::{Sink, SinkOf};
-pub use speech::{CHUNK, Speaks, run_speech};
 pub use stream::{Answers, StreamFault, is_question, run_text, write_whole};
-pub use tally::Tally;
 pub use words::{Split, has_no_word, split_word, without_spaces};
 
 mod feed;
 pub mod laws;
 mod line;
+mod line_reader;
 mod recorder;
 mod sink;
-mod speech;
 mod stream;
 mod tally;
 mod words;

@@ -137,7 +137,7 @@ impl Line {
     }
 
     /// Takes the byte that is held back to the others.
-    fn release(&mut self)
+    pub fn release(&mut self)
         ensures { self.new ≡ record { kept = whole self.old; held = false } }
     {
         if self.held {

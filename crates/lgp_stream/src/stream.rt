@@ -1,19 +1,21 @@
 //! Answering a text line by line while it is read, and writing the replies.
 
-ghost use Rattle.std.specs.Prelude.{◌≡◌, ◌++◌, ◌∷◌, ◌≤◌, [], List, ℕ, IfErr, IfOk, IfSome, IsErr, OnOk, false, true, length, take};
+ghost use Rattle.std.specs.Prelude.{◌≡◌, ◌++◌, ◌∷◌, ◌≤◌, [], List, Option, ℕ, IfErr, IfOk, IfSome, IsErr, OnOk, false, true, length, take};
 ghost use Rattle.std.specs.Io.KnownBytes.{Appends, IsAtEnd};
 ghost use Rattle.std.specs.List.{concat};
-ghost use Rattle.lgp_stream.specs.Language.{StandsOf, HasCause, Language, StandsWritten, is_question, question_count, text_replies, fault_after, HasStopped};
+ghost use Rattle.std.specs.Str.Lines.{lines};
+ghost use Rattle.lgp_stream.specs.Language.{StandsOf, HasCause, Language, StandsWritten, is_question, question_count, replies_to, state_after, text_replies, fault_after, HasStopped};
 ghost use Rattle.lgp_stream.specs.KeptLine.{kept_of};
-ghost use Rattle.lgp_stream.specs.Speech.{speech_of};
+ghost use Rattle.lgp_stream.specs.AnsweringInside.{HasAnswered, HasAnsweredComplete, HasWritten};
+ghost use Rattle.lgp_stream.specs.OpenLineInside.{open_of};
+ghost use Rattle.lgp_stream.specs.Transcript.{IsLine};
 
 use crate::feed::Feed;
-use crate::line::LineBytes;
+use crate::line::{Line, LineBytes};
+use crate::line_reader::ReadBytes;
 use crate::sink::Sink;
-use crate::speech::{Speaks, run_speech};
 use crate::tally::Tally;
 use std::alloc::{AllocError, Allocator};
-use std::marker::Model;
 use thiserror::Error;
 
 /// Why a text was not answered to its end.
@@ -111,45 +113,110 @@ pub fn write_whole<W: Sink>(writer: &mut W, text: &[u8]) -> Result<(), StreamFau
     }
 }
 
-/// A language's replies as a speech of one text a line.
+/// What answers a text, and the count of its replies.
 #[derive(Drop)]
-struct Replying<A: Allocator, L: Answers<A>> {
+struct Answering<A: Allocator, L: Answers<A>> {
     alloc: A,
     answers: L,
+    tally: Tally,
 }
 
-impl<A: Allocator, L: Answers<A>> Model for Replying<A, L> {
-    ghost Value = { L };
-
-    ghost view = { λ replying. replying.answers };
-}
-
-impl<A: Allocator + Copy, L: Answers<A>> Speaks for Replying<A, L> {
-    ghost speech = { speech_of L.language };
-
-    fn speak<W: Sink>(
-        &mut self,
-        line: &LineBytes,
-        writer: &mut W,
-        tally: &mut Tally,
-    ) -> Result<(), StreamFault> {
+impl<A: Allocator + Copy, L: Answers<A>> Answering<A, L> {
+    /// Writes the reply to a line.
+    fn answer<W: Sink>(&mut self, line: &LineBytes, writer: &mut W) -> Result<(), StreamFault>
+        ensures answered { (s : L) (w₀ : Option (List ℕ)) (lines : List (List ℕ)) (text : List ℕ)
+            → HasAnswered L.language s w₀ (W.contents writer.old) lines
+            self.old.answers self.old.tally
+            → line.now ≡ kept_of text
+            → OnOk result (HasAnswered L.language s w₀ (W.contents writer.new) (lines ++ text ∷ [])
+            self.new.answers self.new.tally) }
+        ensures stopped { (s : L) (w₀ : Option (List ℕ)) (lines : List (List ℕ)) (text : List ℕ)
+            → HasAnswered L.language s w₀ (W.contents writer.old) lines
+            self.old.answers self.old.tally
+            → line.now ≡ kept_of text
+            → IfErr result (λ fault. HasStopped fault w₀ (W.contents writer.new)
+            (replies_to L.language s (lines ++ text ∷ []))) }
+        ensures cause { IfErr result (λ fault. HasCause fault false (W.failed writer.new)) }
+    {
         let mut reply = Vec::new(self.alloc);
         let Ok(()) = self.answers.answer(line, &mut reply) else {
             return Err(StreamFault::Memory);
         };
-        tally.deliver(writer, &reply)
+        self.tally.deliver(writer, &reply)
     }
 
-    fn conclude<W: Sink>(&mut self, writer: &mut W, tally: &mut Tally) -> Result<(), StreamFault> {
+    /// Reads a text to its end and writes the replies to its complete lines. The line then has what comes after them.
+    fn answer_complete<R: Feed, W: Sink>(
+        &mut self,
+        line: &mut Line,
+        reader: &mut R,
+        writer: &mut W,
+    ) -> Result<(), StreamFault>
+        requires begun { line.old ≡ open_of [] }
+        requires uncounted { self.old.tally ≡ record { questions = 0; bytes = 0 } }
+        ensures read { OnOk result (IsAtEnd (R.remaining reader.new)) }
+        ensures answered { OnOk result (HasAnsweredComplete L.language self.old.answers
+            (R.remaining reader.old) (W.contents writer.old) (W.contents writer.new)
+            self.new.answers line.new self.new.tally) }
+        ensures stands { IfErr result (λ fault. IfSome (R.remaining reader.old) (λ text.
+            StandsWritten [] L.language self.old.answers fault text
+            (R.remaining reader.new) (W.contents writer.old) (W.contents writer.new))) }
+        ensures cause { IfErr result (λ fault.
+            HasCause fault (R.failed reader.new) (W.failed writer.new)) }
+    {
+        let mut lines = ReadBytes::new();
+        'lines: loop {
+            let Ok(is_complete) = lines.take_line(reader, line) else {
+                return Err(StreamFault::Read);
+            };
+            if !is_complete {
+                return Ok(());
+            }
+            self.answer(line.bytes(), writer)?;
+            line.restart();
+        }
+    }
+
+    /// Writes the reply to what comes after the last line feed: a line, if there is anything.
+    fn answer_last<W: Sink>(&mut self, line: Line, writer: &mut W) -> Result<(), StreamFault>
+        ensures answered { (s : L) (w₀ : Option (List ℕ)) (complete : List (List ℕ))
+            (piece : List ℕ) → HasAnswered L.language s w₀ (W.contents writer.old) complete
+            self.old.answers self.old.tally → IsLine piece → line ≡ open_of piece
+            → OnOk result (HasAnswered L.language s w₀ (W.contents writer.new)
+            (complete ++ lines piece) self.new.answers self.new.tally) }
+        ensures stopped { (s : L) (w₀ : Option (List ℕ)) (complete : List (List ℕ))
+            (piece : List ℕ) → HasAnswered L.language s w₀ (W.contents writer.old) complete
+            self.old.answers self.old.tally → IsLine piece → line ≡ open_of piece
+            → IfErr result (λ fault. HasStopped fault w₀ (W.contents writer.new)
+            (replies_to L.language s (complete ++ lines piece))) }
+        ensures cause { IfErr result (λ fault. HasCause fault false (W.failed writer.new)) }
+    {
+        if line.is_unbegun() {
+            return Ok(());
+        }
+        self.answer(&line.last(), writer)
+    }
+
+    /// Writes the reply to the text's end.
+    fn close<W: Sink>(&mut self, writer: &mut W) -> Result<(), StreamFault>
+        ensures written { (s : L) (w₀ : Option (List ℕ)) (lines : List (List ℕ))
+            → HasAnswered L.language s w₀ (W.contents writer.old) lines
+            self.old.answers self.old.tally
+            → OnOk result (HasWritten w₀ (W.contents writer.new) (replies_to L.language s lines
+            ++ L.language.closing (state_after L.language s lines) ∷ []) self.new.tally) }
+        ensures stopped { (s : L) (w₀ : Option (List ℕ)) (lines : List (List ℕ))
+            → HasAnswered L.language s w₀ (W.contents writer.old) lines
+            self.old.answers self.old.tally
+            → IfErr result (λ fault. HasStopped fault w₀ (W.contents writer.new)
+            (replies_to L.language s lines
+            ++ L.language.closing (state_after L.language s lines) ∷ [])) }
+        ensures cause { IfErr result (λ fault. HasCause fault false (W.failed writer.new)) }
+    {
         let mut reply = Vec::new(self.alloc);
         let Ok(()) = self.answers.close(&mut reply) else {
             return Err(StreamFault::Memory);
         };
-        tally.deliver(writer, &reply)
-    }
-
-    fn has_ended(&self) -> bool {
-        false
+        self.tally.deliver(writer, &reply)
     }
 }
 
@@ -173,5 +240,14 @@ pub fn run_text<A: Allocator + Copy, L: Answers<A>, R: Feed, W: Sink>(
         StandsWritten [] L.language answers fault text
         (R.remaining reader.new) (W.contents writer.old) (W.contents writer.new))) }
 {
-    run_speech(Replying { alloc, answers }, Tally::new(), reader, writer)
+    let mut answering = Answering {
+        alloc,
+        answers,
+        tally: Tally::new(),
+    };
+    let mut line = Line::new();
+    answering.answer_complete(&mut line, reader, writer)?;
+    answering.answer_last(line, writer)?;
+    answering.close(writer)?;
+    Ok(answering.tally.questions)
 }

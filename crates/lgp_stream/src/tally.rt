@@ -1,22 +1,22 @@
-//! The count of texts that are written one after another.
+//! The count of replies that are written one after another.
 
-ghost use Rattle.std.specs.Prelude.{◌≡◌, ◌∷◌, [], IfErr, false};
-ghost use Rattle.lgp_stream.specs.Language.{HasCause};
-ghost use Rattle.lgp_stream.specs.Speech.{IsSaying};
+ghost use Rattle.std.specs.Prelude.{◌≡◌, ◌++◌, ◌∷◌, [], List, Option, ℕ, IfErr, OnOk, false};
+ghost use Rattle.lgp_stream.specs.AnsweringInside.{HasWritten};
+ghost use Rattle.lgp_stream.specs.Language.{HasCause, HasStopped};
 
 use crate::sink::Sink;
 use crate::stream::{StreamFault, is_question, send};
 
-/// How many texts began with a question mark, and how many bytes of texts were written; each counts as far as 64 bits do.
+/// How many replies began with a question mark, and how many bytes of replies were written; each counts as far as 64 bits do.
 #[derive(Clone, Copy, Debug, PartialEq, Eq)]
-pub struct Tally {
-    pub questions: u64,
-    pub bytes: u64,
+pub(crate) struct Tally {
+    pub(crate) questions: u64,
+    pub(crate) bytes: u64,
 }
 
 impl Tally {
     /// Nothing was written.
-    pub fn new() -> Tally
+    pub(crate) fn new() -> Tally
         ensures { result ≡ record { questions = 0; bytes = 0 } }
     {
         Tally {
@@ -25,16 +25,26 @@ impl Tally {
         }
     }
 
-    /// Writes a text and counts it.
-    pub fn deliver<W: Sink>(&mut self, writer: &mut W, text: &[u8]) -> Result<(), StreamFault>
-        ensures said { IsSaying (W.contents writer.old) (W.contents writer.new) self.old self.new
-            result (text.now ∷ []) }
+    /// Writes a reply and counts it.
+    pub(crate) fn deliver<W: Sink>(
+        &mut self,
+        writer: &mut W,
+        reply: &[u8],
+    ) -> Result<(), StreamFault>
+        ensures written { (w₀ : Option (List ℕ)) (earlier : List (List ℕ))
+            → HasWritten w₀ (W.contents writer.old) earlier self.old
+            → OnOk result (HasWritten w₀ (W.contents writer.new) (earlier ++ reply.now ∷ [])
+            self.new) }
+        ensures stopped { (w₀ : Option (List ℕ)) (earlier : List (List ℕ))
+            → HasWritten w₀ (W.contents writer.old) earlier self.old
+            → IfErr result (λ fault. HasStopped fault w₀ (W.contents writer.new)
+            (earlier ++ reply.now ∷ [])) }
         ensures cause { IfErr result (λ fault. HasCause fault false (W.failed writer.new)) }
     {
-        self.questions = self.questions.saturating_add(u64::from(is_question(text)));
-        match send(writer, text) {
+        self.questions = self.questions.saturating_add(u64::from(is_question(reply)));
+        match send(writer, reply) {
             Ok(()) => {
-                self.bytes = self.bytes.saturating_add(text.len() as u64);
+                self.bytes = self.bytes.saturating_add(reply.len() as u64);
                 Ok(())
             }
             Err(broken) => Err(StreamFault::Write(self.bytes.saturating_add(broken.taken as u64))),

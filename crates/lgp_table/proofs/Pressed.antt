@@ -8,8 +8,8 @@ use Rattle.std.proofs.lemmas.List.Sums.{sum_by-cons}
 use Rattle.lgp_table.specs.State.{State}
 use Rattle.lgp_table.specs.Activity.{cost, next}
 use Rattle.lgp_table.specs.After.{after, total_cost}
-use Rattle.lgp_table.specs.Console.{Desk, desk_after}
-use Rattle.lgp_table.specs.Interleaving.{Configuration, after_actions, after_events, after_press, after_word_time, at_boundary, desk_of, latch_limit, with_desk}
+use Rattle.lgp_table.specs.Console.{Console, console_after}
+use Rattle.lgp_table.specs.Interleaving.{Configuration, after_actions, after_events, after_press, after_word_time, at_boundary, console_of, latch_limit, with_console}
 use Rattle.lgp_table.specs.SwitchPresses.{is_time_or_switch, is_word_time, looks_at_switches, presses_switch, with_switches}
 use Rattle.lgp_table.specs.declared.action.Action.{Action}
 use Rattle.lgp_table.specs.declared.action.Action.TheVariants as actions
@@ -28,35 +28,35 @@ switches_after switches (actions.BreakPoint which down) = with_break_point switc
 switches_after switches (actions.Transfer down) = record switches { transfer = down }
 switches_after switches _ = switches
 
-desk_pressed : (s : State) (switches : Switches) (action : Action) → presses_switch action ≡ true
-    → desk_after (desk_of (with_switches s switches)) action ≡ desk_of (with_switches s (switches_after switches action))
+console_pressed : (s : State) (switches : Switches) (action : Action) → presses_switch action ≡ true
+    → console_after (console_of (with_switches s switches)) action ≡ console_of (with_switches s (switches_after switches action))
 unfolding switches_after
-desk_pressed s switches (actions.BreakPoint B32 down) is = refl
-desk_pressed s switches (actions.BreakPoint B16 down) is = refl
-desk_pressed s switches (actions.BreakPoint B8 down) is = refl
-desk_pressed s switches (actions.BreakPoint B4 down) is = refl
-desk_pressed s switches (actions.Transfer down) is = refl
-desk_pressed s switches (actions.Mode mode) is = cc
-desk_pressed s switches actions.Start is = cc
-desk_pressed s switches actions.ClearCounter is = cc
-desk_pressed s switches actions.Fill is = cc
-desk_pressed s switches actions.Execute is = cc
-desk_pressed s switches (actions.Key code) is = cc
-desk_pressed s switches actions.StartCompute is = cc
-desk_pressed s switches actions.StartRead is = cc
-desk_pressed s switches (actions.SixBit down) is = cc
+console_pressed s switches (actions.BreakPoint B32 down) is = refl
+console_pressed s switches (actions.BreakPoint B16 down) is = refl
+console_pressed s switches (actions.BreakPoint B8 down) is = refl
+console_pressed s switches (actions.BreakPoint B4 down) is = refl
+console_pressed s switches (actions.Transfer down) is = refl
+console_pressed s switches (actions.Mode mode) is = cc
+console_pressed s switches actions.Start is = cc
+console_pressed s switches actions.ClearCounter is = cc
+console_pressed s switches actions.Fill is = cc
+console_pressed s switches actions.Execute is = cc
+console_pressed s switches (actions.Key code) is = cc
+console_pressed s switches actions.StartCompute is = cc
+console_pressed s switches actions.StartRead is = cc
+console_pressed s switches (actions.SixBit down) is = cc
 
 both : (a b : Bool) → (a && b) ≡ true → (a ≡ true) × (b ≡ true)
 both true b e = (refl, e)
 both false b e = cc
 
-desk_pressed_all : (s : State) (switches : Switches) (kept : List Action) → list_all presses_switch kept ≡ true
-    → fold desk_after (desk_of (with_switches s switches)) kept ≡ desk_of (with_switches s (fold switches_after switches kept))
-desk_pressed_all s switches [] all = refl
-desk_pressed_all s switches (action ∷ kept) all =
+console_pressed_all : (s : State) (switches : Switches) (kept : List Action) → list_all presses_switch kept ≡ true
+    → fold console_after (console_of (with_switches s switches)) kept ≡ console_of (with_switches s (fold switches_after switches kept))
+console_pressed_all s switches [] all = refl
+console_pressed_all s switches (action ∷ kept) all =
     let (first, others) = both (presses_switch action) (list_all presses_switch kept) all in
-    ap (λ (desk : Desk). fold desk_after desk kept) (desk_pressed s _ _ first)
-    ∙ desk_pressed_all s (switches_after switches action) kept others
+    ap (λ (console : Console). fold console_after console kept) (console_pressed s _ _ first)
+    ∙ console_pressed_all s (switches_after switches action) kept others
 
 -- where the events end at a boundary in this state, but for those switches
 abbrev EndsAs : Configuration → List Event → State → Type 0
@@ -80,15 +80,15 @@ time_last : (s : State) (switches : Switches) (elapsed : ℕ) (kept : List Actio
 time_last s switches elapsed kept blind last all =
     let same = cost_same s switches in
     let test : nat_lt (elapsed + 1) (cost (with_switches s switches)) ≡ false = grind (arith, nat_tests) in
-    let desk = desk_pressed_all (next s) switches kept all in
+    let console = console_pressed_all (next s) switches kept all in
     let state = next_same s switches blind in
     let acted : after_actions (next (with_switches s switches)) kept ≡ with_switches (next s) (fold switches_after switches kept) =
-    ap (λ t. after_actions t kept) state ∙ ap (λ (desk : Desk). with_desk (with_switches (next s) switches) desk) desk in
+    ap (λ t. after_actions t kept) state ∙ ap (λ (console : Console). with_console (with_switches (next s) switches) console) console in
     rw test (ap at_boundary acted)
 
 press_at_boundary : (s : State) (switches : Switches) (action : Action) → presses_switch action ≡ true
     → after_press (amid s switches 0 []) action ≡ amid s (switches_after switches action) 0 []
-press_at_boundary s switches action is = grind (arith, desk_pressed)
+press_at_boundary s switches action is = grind (arith, console_pressed)
 
 press_kept : (s : State) (switches : Switches) (elapsed : ℕ) (kept : List Action) (action : Action) → elapsed ≢ 0 → nat_lt (length kept) latch_limit ≡ true
     → after_press (amid s switches elapsed kept) action ≡ amid s switches elapsed (kept ++ action ∷ [])

@@ -20,7 +20,7 @@ use Rattle.lgp_table.specs.declared.panel.Status.TheVariants.{Reading}
 use Rattle.lgp_table.specs.declared.panel.Cause.TheVariants.{Operator}
 
 -- what the console acts on
-pub record Desk : Type 0 where
+pub record Console : Type 0 where
   pub panel : Panel
   pub tape : Tape
 
@@ -97,30 +97,36 @@ after_key panel code = record panel {
 }
 
 -- what a live action does
-abbrev pub effect_on : Desk → Action → Desk
-effect_on desk (actions.Mode mode) = record desk {
-  panel = record desk.panel { mode = mode; status = status_in_mode mode desk.panel.status };
+abbrev pub effect_on : Console → Action → Console
+effect_on console (actions.Mode mode) = record console {
+  panel = record console.panel { mode = mode; status = status_in_mode mode console.panel.status };
 }
-effect_on desk actions.Start = record desk { panel = record desk.panel { status = Going } }
-effect_on desk actions.ClearCounter = record desk { panel = record desk.panel { counter = 0 } }
-effect_on desk actions.Fill =
-    record desk { panel = record desk.panel { register = stored desk.panel.accumulator } }
-effect_on desk actions.Execute = record desk { panel = record desk.panel { status = Executing } }
-effect_on desk (actions.Key code) = record desk { panel = after_key desk.panel code }
-effect_on desk actions.StartCompute =
-    record desk { panel = record desk.panel { status = resume desk.panel.mode } }
-effect_on desk actions.StartRead =
-    record { panel = record desk.panel { status = Reading }; tape = record desk.tape { on = true } }
-effect_on desk (actions.BreakPoint which down) = record desk {
-  panel = record desk.panel { switches = with_break_point desk.panel.switches which down };
+effect_on console actions.Start = record console { panel = record console.panel { status = Going } }
+effect_on console actions.ClearCounter =
+    record console { panel = record console.panel { counter = 0 } }
+effect_on console actions.Fill =
+    record console { panel = record console.panel { register = stored console.panel.accumulator } }
+effect_on console actions.Execute =
+    record console { panel = record console.panel { status = Executing } }
+effect_on console (actions.Key code) = record console { panel = after_key console.panel code }
+effect_on console actions.StartCompute =
+    record console { panel = record console.panel { status = resume console.panel.mode } }
+effect_on console actions.StartRead =
+    record {
+      panel = record console.panel { status = Reading };
+      tape = record console.tape { on = true };
+    }
+effect_on console (actions.BreakPoint which down) = record console {
+  panel = record console.panel { switches = with_break_point console.panel.switches which down };
 }
-effect_on desk (actions.Transfer down) = record desk {
-  panel = record desk.panel { switches = record desk.panel.switches { transfer = down } };
+effect_on console (actions.Transfer down) = record console {
+  panel = record console.panel { switches = record console.panel.switches { transfer = down } };
 }
-effect_on desk (actions.SixBit down) = record desk {
-  panel = record desk.panel { switches = record desk.panel.switches { six_bit = down } };
+effect_on console (actions.SixBit down) = record console {
+  panel = record console.panel { switches = record console.panel.switches { six_bit = down } };
 }
 
 -- what an action does: nothing where it is dead
-abbrev pub desk_after : Desk → Action → Desk
-desk_after desk action = if is_live desk.panel action then effect_on desk action else desk
+abbrev pub console_after : Console → Action → Console
+console_after console action =
+    if is_live console.panel action then effect_on console action else console

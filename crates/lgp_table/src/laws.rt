@@ -16,7 +16,7 @@ ghost use Rattle.lgp_table.specs.State.{Core, State, word_at};
 ghost use Rattle.lgp_table.specs.declared.panel.Panel.{Panel};
 ghost use Rattle.lgp_word.specs.Drum.{position_of, position_under_head};
 ghost use Rattle.lgp_table.specs.Wait.{wait};
-ghost use Rattle.lgp_table.specs.Console.{Desk, desk_after, is_live};
+ghost use Rattle.lgp_table.specs.Console.{Console, console_after, is_live};
 
 use crate::action::{Action, Event};
 
@@ -31,8 +31,8 @@ pub fn waits()
 
 /// A dead action changes nothing.
 pub fn dead_actions()
-    ensures unchanged { (desk : Desk) (action : Action)
-        → is_live desk.panel action ≡ false → desk_after desk action ≡ desk }
+    ensures unchanged { (console : Console) (action : Action)
+        → is_live console.panel action ≡ false → console_after console action ≡ console }
 {}
 
 /// Every activity takes a word time at least, and the clock never goes back.

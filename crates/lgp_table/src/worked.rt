@@ -5,7 +5,7 @@
 ghost use Rattle.std.specs.Prelude.{◌≡◌, ◌+◌, ◌*◌, ◌-◌, ◌%◌, ◌^◌, ℕ, true, false, length, [], ◌∷◌, Some};
 ghost use Rattle.lgp_table.specs.State.{State, word_at};
 ghost use Rattle.lgp_table.specs.Activity.{cost, next, print_of};
-ghost use Rattle.lgp_table.specs.Console.{Desk, desk_after, is_live};
+ghost use Rattle.lgp_table.specs.Console.{Console, console_after, is_live};
 ghost use Rattle.lgp_table.specs.Wait.{wait};
 ghost use Rattle.lgp_table.specs.Worked.{Begins, at, minus_t, order, tape_to_read, unended_tape, worked_tape};
 
@@ -158,13 +158,16 @@ pub fn input()
 /// Keys struck where the machine has halted in Manual: the digit 1 enters, the conditional stop and a skipped code are dead.
 #[tactic(auto)]
 pub fn keys_in_manual()
-    ensures live { (desk : Desk) → (cause : Cause) → desk.panel.status ≡ Status.Halted cause
-        → desk.panel.mode ≡ Mode.Manual → is_live desk.panel (Action.Key 6) ≡ true }
-    ensures enters { (desk : Desk) → (cause : Cause) → desk.panel.status ≡ Status.Halted cause
-        → desk.panel.mode ≡ Mode.Manual → desk.panel.switches.six_bit ≡ false
-        → (desk_after desk (Action.Key 6)).panel.accumulator
-        ≡ (16 * desk.panel.accumulator + 1) % 2 ^ 32 }
-    ensures stop_dead { (desk : Desk) → (cause : Cause) → desk.panel.status ≡ Status.Halted cause
-        → is_live desk.panel (Action.Key 32) ≡ false }
-    ensures skipped_dead { (desk : Desk) → is_live desk.panel (Action.Key 16) ≡ false }
+    ensures live { (console : Console) → (cause : Cause)
+        → console.panel.status ≡ Status.Halted cause
+        → console.panel.mode ≡ Mode.Manual → is_live console.panel (Action.Key 6) ≡ true }
+    ensures enters { (console : Console) → (cause : Cause)
+        → console.panel.status ≡ Status.Halted cause
+        → console.panel.mode ≡ Mode.Manual → console.panel.switches.six_bit ≡ false
+        → (console_after console (Action.Key 6)).panel.accumulator
+        ≡ (16 * console.panel.accumulator + 1) % 2 ^ 32 }
+    ensures stop_dead { (console : Console) → (cause : Cause)
+        → console.panel.status ≡ Status.Halted cause
+        → is_live console.panel (Action.Key 32) ≡ false }
+    ensures skipped_dead { (console : Console) → is_live console.panel (Action.Key 16) ≡ false }
 {}

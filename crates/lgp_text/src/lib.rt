@@ -3,7 +3,7 @@
 
 pub use names::{Named, value_named};
 pub use panel::{mode_text, on_text, status_text, switches_text};
-pub use pieces::{Piece, push_pieces};
+pub use pieces::{Piece, push_decimal, push_pieces};
 
 mod names;
 mod panel;

@@ -21,7 +21,7 @@ pub enum Piece<'a> {
 }
 
 /// Appends a number in decimal.
-fn push_decimal<A: Allocator>(text: &mut Vec<u8, A>, number: u64) -> Result<(), AllocError>
+pub fn push_decimal<A: Allocator>(text: &mut Vec<u8, A>, number: u64) -> Result<(), AllocError>
     ensures { OnOk result (text.new.items ≡ text.old.items ++ decimal number) }
 {
     let mut buffer = Buffer::new();

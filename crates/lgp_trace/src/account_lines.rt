@@ -11,13 +11,13 @@ ghost use Rattle.lgp_trace.specs.PhrasesInside.{phrase_text};
 ghost use Rattle.lgp_flexo.specs.Code.{sign_at};
 
 use crate::account::{Account, Operand};
-use crate::columns::{push_blanks_after, push_decimal, push_right, push_spaced};
+use crate::columns::{push_blanks_after, push_right, push_spaced};
 use crate::labels::{Labels, NoLabels};
 use crate::phases::Phases;
 use crate::phrases::{Phrase, push_column, push_phrases};
 use lgp_flexo::{Code, sign_of};
 use lgp_table::{Status, stores};
-use lgp_text::{Piece, push_pieces, status_text};
+use lgp_text::{Piece, push_decimal, push_pieces, status_text};
 use lgp_word::{Address, Op, Word, decode, parts, write_bits, write_digits};
 use std::alloc::{AllocError, Allocator};
 

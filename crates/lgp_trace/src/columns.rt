@@ -1,6 +1,6 @@
 //! Columns of a line.
 
-ghost use Rattle.std.specs.Prelude.{◌≡◌, ◌-◌, ◌++◌, decimal, replicate, OnOk, vec_len};
+ghost use Rattle.std.specs.Prelude.{◌≡◌, ◌-◌, ◌++◌, replicate, OnOk, vec_len};
 ghost use Rattle.lgp_trace.specs.Columns.{blanks, right_aligned, spaced_number};
 
 use itoa::Buffer;
@@ -19,17 +19,6 @@ pub fn push_copies<A: Allocator>(
         text.push(byte)?;
     }
     Ok(())
-}
-
-/// Appends a number in decimal.
-pub(crate) fn push_decimal<A: Allocator>(
-    text: &mut Vec<u8, A>,
-    number: u64,
-) -> Result<(), AllocError>
-    ensures { OnOk result (text.new.items ≡ text.old.items ++ decimal number) }
-{
-    let mut buffer = Buffer::new();
-    text.extend_from_slice(buffer.format(number).as_bytes())
 }
 
 /// Appends a number at the right of its column.

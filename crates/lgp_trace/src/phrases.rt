@@ -5,10 +5,11 @@ ghost use Rattle.lgp_trace.specs.Columns.{left_aligned};
 ghost use Rattle.lgp_trace.specs.PhrasesInside.{phrase_text, phrases_text};
 
 use crate::account_lines::{push_performed, push_place, push_word};
-use crate::columns::{push_blanks_after, push_decimal};
+use crate::columns::push_blanks_after;
 use crate::labels::Labels;
 use crate::origin_lines::push_lost;
 use crate::profile_lines::push_turns;
+use lgp_text::push_decimal;
 use lgp_word::{Address, Word};
 use std::alloc::{AllocError, Allocator};
 

@@ -2,7 +2,7 @@
 
 use super::*;
 use crate::drum::{Cell, put_all};
-use crate::growths::{Form, is_examined_drum, is_written};
+use crate::growths::{Made, is_examined_drum, is_written};
 use crate::text_of;
 use lgp_drum::Drum;
 use lgp_limited::Limited;
@@ -29,7 +29,7 @@ const DEPOSITS: &[u8] =
 /// Whether a drum of these words has these deposits.
 fn has_deposits(global: Global, cells: &[Cell], text: &[u8]) -> bool {
     match drum_of(global, cells) {
-        Some(drum) => is_written(global, Form::Deposits(&drum), text) == Some(true),
+        Some(drum) => is_written(global, Made::Deposits(&drum), text) == Some(true),
         None => false,
     }
 }

@@ -1,7 +1,7 @@
 //! Tapes as texts of archives and as bytes.
 
 use super::*;
-use crate::growths::{Form, is_tape_of_bytes, is_written};
+use crate::growths::{Made, is_tape_of_bytes, is_written};
 use crate::text_of;
 use lgp_limited::Limited;
 
@@ -32,7 +32,7 @@ pub fn codes_of(global: Global, numbers: &[u8]) -> Option<Vec<Code>> {
 /// Whether the codes of these numbers are written as this text.
 fn is_written_as(global: Global, numbers: &[u8], text: &[u8]) -> bool {
     match codes_of(global, numbers) {
-        Some(codes) => is_written(global, Form::Archive(&codes), text) == Some(true),
+        Some(codes) => is_written(global, Made::Archive(&codes), text) == Some(true),
         None => false,
     }
 }

@@ -3,13 +3,13 @@
 use super::*;
 use crate::drum::Cell;
 use crate::exchange::drums::drum_of;
-use crate::growths::{Form, is_dumped_drum, is_written};
+use crate::growths::{Made, is_dumped_drum, is_written};
 use crate::text_of;
 use lgp_limited::Limited;
 
 /// Whether a drum has this dump.
 fn has_dump(alloc: Global, drum: &Drum, wanted: &[u8]) -> bool {
-    is_written(alloc, Form::Dump(drum), wanted) == Some(true)
+    is_written(alloc, Made::Dump(drum), wanted) == Some(true)
 }
 
 /// Whether a text is the dump of a drum.

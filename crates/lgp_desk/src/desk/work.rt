@@ -1,27 +1,23 @@
-//! What the desk does for a line that names a file: each work's reply, and where the monitor stands after it.
+//! What the desk does with the text of a file: each work's reply, and where the monitor stands after it.
 
-ghost use Rattle.std.specs.Prelude.{◌≡◌, ◌++◌, ◌∷◌, [], IfErr, IfOk, IsTrue, List, OnOk, Result, Some, ℕ, codes, false, is_some};
+ghost use Rattle.std.specs.Prelude.{◌≡◌, ◌++◌, ◌∷◌, [], IfOk, List, OnOk, Result, ℕ, codes, false};
 ghost use Rattle.std.specs.Result.{result_map_both};
 ghost use Rattle.std.specs.Str.Lines.{lines};
 ghost use Rattle.lgp_flexo.specs.TapeText.{written_tape};
-ghost use Rattle.lgp_stream.specs.Language.{HasCause};
-ghost use Rattle.lgp_desk.specs.FileForms.{text_made};
-ghost use Rattle.lgp_desk.specs.Files.{Drawer, IsKept};
-ghost use Rattle.lgp_desk.specs.Desk.{all_answered, answered, long_tape, mounted, own, restore_word, restored, restored_or_refused, saved, source_said, tape_or_refused, text_at, used, used_or_refused, within, written};
-ghost use Rattle.lgp_desk.specs.DeskInside.{HasSaid, IsOfText};
-ghost use Rattle.lgp_desk.specs.Troubles.{kept_text};
+ghost use Rattle.lgp_desk.specs.Desk.{all_answered, answered, kept_or_refused, long_tape, marked, mounted, restore_word, restored, restored_or_refused, source_said, tape_or_refused, used, used_or_refused, with_file, within, written};
 ghost use Rattle.lgp_desk.specs.declared.files.FileTrouble.{FileTrouble};
 
 use super::Desk;
 use crate::file_forms::{checked_drum, checked_tape, has_point};
-use crate::files::{FileTrouble, Files};
-use crate::keeping::text_made;
-use crate::request::{DrumForm, Made, Work};
+use crate::files::FileTrouble;
+use crate::open_file::OpenFile;
+use crate::request::{DrumForm, Work};
 use crate::trouble::{note_within, push_kept};
-use crate::writing::{Manner, push_written};
+use crate::writing::push_written;
 use lgp_monitor::Progress;
-use lgp_stream::{Sink, StreamFault, Tally};
+use lgp_stream::{LineBytes, first_line};
 use std::alloc::{AllocError, Allocator};
+use std::mem;
 
 /// How many bytes of a tape's text a line has room for, after `mount` and its space.
 const MOUNT_LIMIT: usize = 4090;
@@ -36,23 +32,7 @@ fn restore_word(form: DrumForm) -> &'static [u8]
     }
 }
 
-/// Appends what is written for a line and its reply, if the line and the note could be made.
-fn push_made<A: Allocator>(
-    text: &mut Vec<u8, A>,
-    manner: Manner,
-    line: Result<Vec<u8, A>, AllocError>,
-    note: Result<Vec<u8, A>, AllocError>,
-    reply: &[u8],
-) -> Result<(), AllocError>
-    ensures { (front : List ℕ) → (from : List ℕ) → IfOk line (λ it. it.items ≡ front)
-        → IfOk note (λ it. it.items ≡ from)
-        → OnOk result (text.new.items
-        ≡ text.old.items ++ written manner front false from reply.now) }
-{
-    push_written(text, manner, &line?, false, &note?, reply)
-}
-
-impl<A: Allocator + Copy, P: Progress, F: Files> Desk<A, P, F> {
+impl<A: Allocator + Copy, P: Progress> Desk<A, P> {
     /// A command and what comes after it.
     fn line_of(&self, command: &[u8], operand: &[u8]) -> Result<Vec<u8, A>, AllocError>
         ensures { IfOk result (λ line. line.items ≡ command.now ++ operand.now) }
@@ -64,27 +44,31 @@ impl<A: Allocator + Copy, P: Progress, F: Files> Desk<A, P, F> {
     }
 
     /// The text for a line of the desk's own, which names a file, and its reply.
-    fn text_for(
-        &self,
+    fn say_named(
+        &mut self,
         command: &[u8],
         name: &[u8],
         note: &[u8],
         reply: &[u8],
     ) -> Result<Vec<u8, A>, AllocError>
-        ensures { IfOk result (λ made. made.items
-            ≡ written self.now.manner (command.now ++ name.now) false (within name.now note.now)
+        ensures text { IfOk result (λ made. made.items
+            ≡ written self.old.manner (command.now ++ name.now) false (within name.now note.now)
             reply.now) }
+        ensures after { OnOk result (self.new ≡ marked self.old
+            (written self.old.manner (command.now ++ name.now) false (within name.now note.now)
+            reply.now)) }
     {
-        let line = self.line_of(command, name);
-        let note = note_within(self.alloc, name, note);
+        let line = self.line_of(command, name)?;
+        let note = note_within(self.alloc, name, note)?;
         let mut text = Vec::new(self.alloc);
-        push_made(&mut text, self.manner, line, note, reply)?;
+        push_written(&mut text, self.manner, &line, false, &note, reply)?;
+        self.mark(&text);
         Ok(text)
     }
 
-    /// The text for a dump that is restored.
+    /// Puts the words of a dump on the drum: the text for it.
     #[tactic(auto, unfolding(crate::specs::Desk::restored))]
-    fn restore_text(
+    fn restore(
         &mut self,
         form: DrumForm,
         note: &[u8],
@@ -92,302 +76,212 @@ impl<A: Allocator + Copy, P: Progress, F: Files> Desk<A, P, F> {
         dump: &[u8],
     ) -> Result<Vec<u8, A>, AllocError>
         ensures text { IfOk result (λ made.
-            made.items ∷ [] ≡ (restored form note.now self.old name.now dump.now).texts) }
+            made.items ≡ (restored form note.now self.old name.now dump.now).text) }
         ensures after { OnOk result (self.new
             ≡ (restored form note.now self.old name.now dump.now).seat) }
     {
         let mut reply = Vec::new(self.alloc);
         self.monitor.restore(dump, &mut reply)?;
-        self.text_for(restore_word(form), name, note, &reply)
-    }
-
-    /// Puts the words of a dump on the drum.
-    #[tactic(auto, unfolding(crate::specs::Desk::restored))]
-    fn restore<W: Sink>(
-        &mut self,
-        form: DrumForm,
-        note: &[u8],
-        name: &[u8],
-        dump: &[u8],
-        writer: &mut W,
-        tally: &mut Tally,
-    ) -> Result<(), StreamFault>
-        ensures said { IsTrue (is_some self.old.drawer)
-            → HasSaid self.new (W.contents writer.old) (W.contents writer.new) tally.old tally.new
-            result (restored form note.now self.old name.now dump.now) }
-        ensures cause { IfErr result (λ fault. HasCause fault false (W.failed writer.new)) }
-    {
-        let Ok(text) = self.restore_text(form, note, name, dump) else {
-            return Err(StreamFault::Memory);
-        };
-        tally.deliver(writer, &text)
-    }
-
-    /// Puts the words of a dump that was checked on the drum, or refuses its file.
-    fn restore_checked<W: Sink>(
-        &mut self,
-        form: DrumForm,
-        note: &[u8],
-        name: &[u8],
-        checked: Result<Result<Vec<u8, A>, FileTrouble>, AllocError>,
-        writer: &mut W,
-        tally: &mut Tally,
-    ) -> Result<(), StreamFault>
-        ensures said { (dump : Result (List ℕ) FileTrouble) → IsTrue (is_some self.old.drawer)
-            → IfOk checked (λ it. result_map_both (λ text. text.items) (λ trouble. trouble) it
-            ≡ dump)
-            → HasSaid self.new (W.contents writer.old) (W.contents writer.new) tally.old tally.new
-            result (restored_or_refused form note.now self.old name.now dump) }
-        ensures cause { IfErr result (λ fault. HasCause fault false (W.failed writer.new)) }
-    {
-        match checked {
-            Ok(Ok(dump)) => self.restore(form, note, name, &dump, writer, tally),
-            Ok(Err(trouble)) => self.refuse(note, name, trouble, writer, tally),
-            Err(_) => Err(StreamFault::Memory),
-        }
+        self.say_named(restore_word(form), name, note, &reply)
     }
 
     /// The text for a tape for whose text no line has room.
     #[tactic(auto, unfolding(crate::specs::Desk::long_tape))]
-    fn long_tape_text(
+    fn mount_long(
         &mut self,
         note: &[u8],
         name: &[u8],
         tape: &[u8],
     ) -> Result<Vec<u8, A>, AllocError>
         ensures text { IfOk result (λ made.
-            made.items ∷ [] ≡ (long_tape note.now self.old name.now tape.now).texts) }
+            made.items ≡ (long_tape note.now self.old name.now tape.now).text) }
         ensures after { OnOk result (self.new
             ≡ (long_tape note.now self.old name.now tape.now).seat) }
     {
         let mut reply = Vec::new(self.alloc);
         self.monitor.mount_tape(name, tape, &mut reply)?;
-        self.text_for(b"tape ", name, note, &reply)
+        self.say_named(b"tape ", name, note, &reply)
     }
 
-    /// Mounts a tape by a line.
-    fn mount_by_line<W: Sink>(
-        &mut self,
-        note: &[u8],
-        name: &[u8],
-        tape: &[u8],
-        writer: &mut W,
-        tally: &mut Tally,
-    ) -> Result<(), StreamFault>
-        ensures said { IsTrue (is_some self.old.drawer)
-            → HasSaid self.new (W.contents writer.old) (W.contents writer.new) tally.old tally.new
-            result (answered (within name.now note.now) self.old (codes "mount " ++ tape.now)) }
-        ensures cause { IfErr result (λ fault. HasCause fault false (W.failed writer.new)) }
+    /// Mounts a tape: the text for it.
+    #[tactic(auto, unfolding(crate::specs::Desk::mounted))]
+    fn mount(&mut self, note: &[u8], name: &[u8], tape: &[u8]) -> Result<Vec<u8, A>, AllocError>
+        ensures text { IfOk result (λ made.
+            made.items ≡ (mounted note.now self.old name.now tape.now).text) }
+        ensures after { OnOk result (self.new
+            ≡ (mounted note.now self.old name.now tape.now).seat) }
     {
-        let (Ok(note), Ok(line)) = (
-            note_within(self.alloc, name, note),
-            self.line_of(b"mount ", tape),
-        ) else {
-            return Err(StreamFault::Memory);
-        };
-        self.answer_bytes(&note, &line, writer, tally)
-    }
-
-    /// Mounts a tape.
-    #[tactic(auto, unfolding(crate::specs::Desk::mounted, crate::specs::Desk::long_tape))]
-    fn mount<W: Sink>(
-        &mut self,
-        note: &[u8],
-        name: &[u8],
-        tape: &[u8],
-        writer: &mut W,
-        tally: &mut Tally,
-    ) -> Result<(), StreamFault>
-        ensures said { IsTrue (is_some self.old.drawer)
-            → HasSaid self.new (W.contents writer.old) (W.contents writer.new) tally.old tally.new
-            result (mounted note.now self.old name.now tape.now) }
-        ensures cause { IfErr result (λ fault. HasCause fault false (W.failed writer.new)) }
-    {
-        if tape.len() <= MOUNT_LIMIT {
-            return self.mount_by_line(note, name, tape, writer, tally);
+        if tape.len() > MOUNT_LIMIT {
+            return self.mount_long(note, name, tape);
         }
-        let Ok(text) = self.long_tape_text(note, name, tape) else {
-            return Err(StreamFault::Memory);
-        };
-        tally.deliver(writer, &text)
-    }
-
-    /// Mounts a tape that was checked, or refuses its file.
-    fn mount_checked<W: Sink>(
-        &mut self,
-        note: &[u8],
-        name: &[u8],
-        checked: Result<Result<Vec<u8, A>, FileTrouble>, AllocError>,
-        writer: &mut W,
-        tally: &mut Tally,
-    ) -> Result<(), StreamFault>
-        ensures said { (tape : Result (List ℕ) FileTrouble) → IsTrue (is_some self.old.drawer)
-            → IfOk checked (λ it. result_map_both (λ text. text.items) (λ trouble. trouble) it
-            ≡ result_map_both written_tape (λ trouble. trouble) tape)
-            → HasSaid self.new (W.contents writer.old) (W.contents writer.new) tally.old tally.new
-            result (tape_or_refused note.now self.old name.now tape) }
-        ensures cause { IfErr result (λ fault. HasCause fault false (W.failed writer.new)) }
-    {
-        match checked {
-            Ok(Ok(tape)) => self.mount(note, name, &tape, writer, tally),
-            Ok(Err(trouble)) => self.refuse(note, name, trouble, writer, tally),
-            Err(_) => Err(StreamFault::Memory),
-        }
+        let note = note_within(self.alloc, name, note)?;
+        let line = self.line_of(b"mount ", tape)?;
+        self.answer(&note, &LineBytes::of(&line))
     }
 
     /// Has the monitor answer the lines of a source, with those that open and close it.
-    fn answer_source<W: Sink>(
-        &mut self,
-        note: &[u8],
-        text: &[u8],
-        writer: &mut W,
-        tally: &mut Tally,
-    ) -> Result<(), StreamFault>
-        ensures said { IsTrue (is_some self.old.drawer)
-            → HasSaid self.new (W.contents writer.old) (W.contents writer.new) tally.old tally.new
-            result (all_answered note.now self.old
-            (codes "source" ∷ (lines text.now ++ codes "." ∷ []))) }
-        ensures cause { IfErr result (λ fault. HasCause fault false (W.failed writer.new)) }
+    fn answer_source(&mut self, note: &[u8], source: &[u8]) -> Result<Vec<u8, A>, AllocError>
+        ensures text { IfOk result (λ made. made.items ≡ (all_answered note.now self.old
+            (codes "source" ∷ (lines source.now ++ codes "." ∷ []))).text) }
+        ensures after { OnOk result (self.new ≡ (all_answered note.now self.old
+            (codes "source" ∷ (lines source.now ++ codes "." ∷ []))).seat) }
     {
-        self.answer_bytes(note, b"source", writer, tally)?;
-        self.answer_all(note, text, writer, tally)?;
-        self.answer_bytes(note, b".", writer, tally)
+        let mut text = self.answer(note, &LineBytes::of(b"source"))?;
+        let mut rest = source;
+        while !rest.is_empty() {
+            let first = first_line(rest);
+            let made = self.answer(note, &first.line)?;
+            text.extend_from_slice(&made)?;
+            rest = first.rest;
+        }
+        let made = self.answer(note, &LineBytes::of(b"."))?;
+        text.extend_from_slice(&made)?;
+        Ok(text)
     }
 
-    /// Takes a source.
+    /// Takes a source: the text for it.
     #[tactic(auto, unfolding(crate::specs::Desk::source_said))]
-    fn take_source<W: Sink>(
+    fn take_source(
         &mut self,
         note: &[u8],
         name: &[u8],
-        text: &[u8],
-        writer: &mut W,
-        tally: &mut Tally,
-    ) -> Result<(), StreamFault>
-        ensures said { IsTrue (is_some self.old.drawer)
-            → HasSaid self.new (W.contents writer.old) (W.contents writer.new) tally.old tally.new
-            result (source_said note.now self.old name.now text.now) }
-        ensures cause { IfErr result (λ fault. HasCause fault false (W.failed writer.new)) }
+        source: &[u8],
+    ) -> Result<Vec<u8, A>, AllocError>
+        ensures text { IfOk result (λ made.
+            made.items ≡ (source_said note.now self.old name.now source.now).text) }
+        ensures after { OnOk result (self.new
+            ≡ (source_said note.now self.old name.now source.now).seat) }
     {
-        if has_point(text) {
-            return self.refuse(note, name, FileTrouble::HasPoint, writer, tally);
+        if has_point(source) {
+            return self.refuse(note, name, FileTrouble::HasPoint);
         }
-        let Ok(note) = note_within(self.alloc, name, note) else {
-            return Err(StreamFault::Memory);
-        };
-        self.answer_source(&note, text, writer, tally)
+        let note = note_within(self.alloc, name, note)?;
+        self.answer_source(&note, source)
     }
 
-    /// Says that something was kept.
-    fn give_kept<W: Sink>(
-        &self,
-        note: &[u8],
-        name: &[u8],
-        writer: &mut W,
-        tally: &mut Tally,
-    ) -> Result<(), StreamFault>
-        ensures said { IsTrue (is_some self.now.drawer)
-            → HasSaid self.now (W.contents writer.old) (W.contents writer.new) tally.old tally.new
-            result (own note.now self.now (kept_text name.now)) }
-        ensures cause { IfErr result (λ fault. HasCause fault false (W.failed writer.new)) }
-    {
-        let mut reply = Vec::new(self.alloc);
-        let Ok(()) = push_kept(&mut reply, name) else {
-            return Err(StreamFault::Memory);
-        };
-        self.give(note, &reply, writer, tally)
-    }
-
-    /// Keeps something under a name; answers whether it is kept.
-    fn keep(&mut self, made: Made, name: &[u8]) -> Result<bool, AllocError>
-        ensures kept { (known : Drawer) → self.old.drawer ≡ Some known → IfOk result (λ kept.
-            IsKept known name.now (text_made made self.old.recorded.state.debugger.state)
-            kept self.new.drawer) }
-        ensures recorded { self.new.recorded ≡ self.old.recorded }
-        ensures manner { self.new.manner ≡ self.old.manner }
-        ensures left { self.new.has_left ≡ self.old.has_left }
-    {
-        let text = text_made(self.alloc, made, self.monitor.laboratory())?;
-        self.files.keep(name, &text)
-    }
-
-    /// Keeps something under a name, and says so.
-    #[tactic(auto, unfolding(crate::specs::Desk::saved))]
-    pub(super) fn save<W: Sink>(
+    /// Mounts the tape that a file has, or refuses the file: the text for it.
+    fn use_tape(
         &mut self,
-        made: Made,
         note: &[u8],
         name: &[u8],
-        writer: &mut W,
-        tally: &mut Tally,
-    ) -> Result<(), StreamFault>
-        ensures said { IsTrue (is_some self.old.drawer)
-            → HasSaid self.new (W.contents writer.old) (W.contents writer.new) tally.old tally.new
-            result (saved made note.now self.old name.now) }
-        ensures cause { IfErr result (λ fault. HasCause fault false (W.failed writer.new)) }
+        checked: Result<Vec<u8, A>, FileTrouble>,
+    ) -> Result<Vec<u8, A>, AllocError>
+        ensures text { (tape : Result (List ℕ) FileTrouble)
+            → result_map_both (λ it. it.items) (λ it. it) checked
+            ≡ result_map_both written_tape (λ it. it) tape
+            → IfOk result (λ made.
+            made.items ≡ (tape_or_refused note.now self.old name.now tape).text) }
+        ensures after { (tape : Result (List ℕ) FileTrouble)
+            → result_map_both (λ it. it.items) (λ it. it) checked
+            ≡ result_map_both written_tape (λ it. it) tape
+            → OnOk result (self.new ≡ (tape_or_refused note.now self.old name.now tape).seat) }
     {
-        match self.keep(made, name) {
-            Ok(true) => self.give_kept(note, name, writer, tally),
-            Ok(false) => self.refuse(note, name, FileTrouble::NotWritten, writer, tally),
-            Err(_) => Err(StreamFault::Memory),
+        match checked {
+            Ok(tape) => self.mount(note, name, &tape),
+            Err(trouble) => self.refuse(note, name, trouble),
         }
     }
 
-    /// Uses a text of a file as its work says.
-    fn use_text<W: Sink>(
+    /// Puts the words that a file has on the drum, or refuses the file: the text for it.
+    fn use_drum(
+        &mut self,
+        form: DrumForm,
+        note: &[u8],
+        name: &[u8],
+        checked: Result<Vec<u8, A>, FileTrouble>,
+    ) -> Result<Vec<u8, A>, AllocError>
+        ensures text { IfOk result (λ made. made.items
+            ≡ (restored_or_refused form note.now self.old name.now
+            (result_map_both (λ it. it.items) (λ it. it) checked)).text) }
+        ensures after { OnOk result (self.new
+            ≡ (restored_or_refused form note.now self.old name.now
+            (result_map_both (λ it. it.items) (λ it. it) checked)).seat) }
+    {
+        match checked {
+            Ok(dump) => self.restore(form, note, name, &dump),
+            Err(trouble) => self.refuse(note, name, trouble),
+        }
+    }
+
+    /// Has the lines of a file typed from now on.
+    fn open(&mut self, name: &[u8], text: Vec<u8, A>) -> Result<Vec<u8, A>, AllocError>
+        ensures text { IfOk result (λ made. made.items ≡ []) }
+        ensures after { OnOk result (self.new ≡ with_file self.old name.now text.items) }
+    {
+        let mut own = Vec::new(self.alloc);
+        own.extend_from_slice(name)?;
+        let file = OpenFile::new(own, text);
+        if let Some(outer) = mem::replace(&mut self.inner, Some(file)) {
+            self.outer.push(outer)?;
+        }
+        Ok(Vec::new(self.alloc))
+    }
+
+    /// Uses the text of a file as its work says: the text for it.
+    fn use_text(
         &mut self,
         work: Work,
         note: &[u8],
         name: &[u8],
-        text: &[u8],
-        writer: &mut W,
-        tally: &mut Tally,
-    ) -> Result<(), StreamFault>
-        ensures said { IsTrue (is_some self.old.drawer)
-            → HasSaid self.new (W.contents writer.old) (W.contents writer.new) tally.old tally.new
-            result (used work note.now self.old name.now text.now) }
-        ensures cause { IfErr result (λ fault. HasCause fault false (W.failed writer.new)) }
+        text: Vec<u8, A>,
+    ) -> Result<Vec<u8, A>, AllocError>
+        ensures text { IfOk result (λ made.
+            made.items ≡ (used work note.now self.old name.now text.items).text) }
+        ensures after { OnOk result (self.new
+            ≡ (used work note.now self.old name.now text.items).seat) }
     {
         match work {
-            Work::Source => self.take_source(note, name, text, writer, tally),
-            Work::Tape(form) => self.mount_checked(
-                note,
-                name,
-                checked_tape(self.alloc, form, text),
-                writer,
-                tally,
-            ),
-            Work::Restore(form) => self.restore_checked(
-                form,
-                note,
-                name,
-                checked_drum(self.alloc, form, text),
-                writer,
-                tally,
-            ),
-            Work::Lines | Work::Keep(_) => Ok(()),
+            Work::Lines => self.open(name, text),
+            Work::Source => self.take_source(note, name, &text),
+            Work::Tape(form) => {
+                let checked = checked_tape(self.alloc, form, &text)?;
+                self.use_tape(note, name, checked)
+            }
+            Work::Restore(form) => {
+                let checked = checked_drum(self.alloc, form, &text)?;
+                self.use_drum(form, note, name, checked)
+            }
+            Work::Keep(_) => Ok(Vec::new(self.alloc)),
         }
     }
 
-    /// Uses a file as its work says, or refuses it.
-    pub(super) fn use_file<W: Sink>(
+    /// Uses a file as its work says, or refuses it: the text for it.
+    pub(super) fn use_file(
         &mut self,
         work: Work,
         note: &[u8],
         name: &[u8],
-        writer: &mut W,
-        tally: &mut Tally,
-    ) -> Result<(), StreamFault>
-        requires { IsOfText work }
-        ensures said { IsTrue (is_some self.old.drawer)
-            → HasSaid self.new (W.contents writer.old) (W.contents writer.new) tally.old tally.new
-            result (used_or_refused work note.now self.old name.now (text_at self.old name.now)) }
-        ensures cause { IfErr result (λ fault. HasCause fault false (W.failed writer.new)) }
+        read: Result<Vec<u8, A>, FileTrouble>,
+    ) -> Result<Vec<u8, A>, AllocError>
+        ensures text { IfOk result (λ made.
+            made.items ≡ (used_or_refused work note.now self.old name.now
+            (result_map_both (λ text. text.items) (λ trouble. trouble) read)).text) }
+        ensures after { OnOk result (self.new ≡ (used_or_refused work note.now self.old name.now
+            (result_map_both (λ text. text.items) (λ trouble. trouble) read)).seat) }
     {
-        match self.files.read(self.alloc, name) {
-            Ok(Ok(text)) => self.use_text(work, note, name, &text, writer, tally),
-            Ok(Err(trouble)) => self.refuse(note, name, trouble, writer, tally),
-            Err(_) => Err(StreamFault::Memory),
+        match read {
+            Ok(text) => self.use_text(work, note, name, text),
+            Err(trouble) => self.refuse(note, name, trouble),
         }
+    }
+
+    /// Says that something was kept, or refuses the file: the text for it.
+    pub(super) fn say_kept(
+        &mut self,
+        note: &[u8],
+        name: &[u8],
+        kept: bool,
+    ) -> Result<Vec<u8, A>, AllocError>
+        ensures text { IfOk result (λ made.
+            made.items ≡ (kept_or_refused note.now self.old name.now kept).text) }
+        ensures after { OnOk result (self.new
+            ≡ (kept_or_refused note.now self.old name.now kept).seat) }
+    {
+        if !kept {
+            return self.refuse(note, name, FileTrouble::NotWritten);
+        }
+        let mut reply = Vec::new(self.alloc);
+        push_kept(&mut reply, name)?;
+        self.say_own(note, &reply)
     }
 }

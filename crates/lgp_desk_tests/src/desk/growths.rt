@@ -21,7 +21,7 @@ const MOST: u64 = 5000;
 fn end_of(
     limited: &Limited<Global>,
     global: Global,
-    (lines, refused): (&[u8], u64),
+    (lines, refused): (&[u8], bool),
     nth: u64,
 ) -> End {
     let mut written = Vec::new(global);
@@ -31,7 +31,7 @@ fn end_of(
 }
 
 /// How many growths there are, where each that is refused in turn ends the lines for want of memory; 0 where one does not.
-fn refusals(limited: &Limited<Global>, global: Global, lines: (&[u8], u64)) -> u64 {
+fn refusals(limited: &Limited<Global>, global: Global, lines: (&[u8], bool)) -> u64 {
     for nth in 1..MOST {
         match end_of(limited, global, lines, nth) {
             End::Refused => {}
@@ -46,8 +46,8 @@ fn refusals(limited: &Limited<Global>, global: Global, lines: (&[u8], u64)) -> u
 fn each_growth_is_refused(rt: HostRuntime) {
     let limited = Limited::new(rt.alloc());
     let are_refused = [
-        refusals(&limited, rt.alloc(), (EACH, 2)) > 60,
-        refusals(&limited, rt.alloc(), (SHARED, 0)) > 20,
+        refusals(&limited, rt.alloc(), (EACH, true)) > 60,
+        refusals(&limited, rt.alloc(), (SHARED, false)) > 20,
     ];
     expect_eq(&rt, (are_refused, limited.blocks_out()), ([true; 2], 0));
 }

@@ -11,25 +11,25 @@ static ANSWERED: [Row; 11] = [
         Manner::Json,
         b"put 0000 = 1\n",
         b"{\"line\":\"put 0000 = 1\",\"reply\":[\"ok\"],\"refused\":false}\n",
-        0,
+        false,
     ),
     (
         Manner::Json,
         b"; \"a\\b\t\x7f\xc3\xbc\x1f~\n",
         b"{\"line\":\"; \\\"a\\\\b\\u0009\\u007f\\u00c3\\u00bc\\u001f~\",\"reply\":[],\"refused\":false}\n",
-        0,
+        false,
     ),
     (
         Manner::Json,
         b"live\n",
         b"{\"line\":\"live\",\"reply\":[\"live normal oneop manual start clear fill\",\"way start\"],\"refused\":false}\n",
-        0,
+        false,
     ),
     (
         Manner::Json,
         b"live now\n",
         b"{\"line\":\"live now\",\"reply\":[\"? 1 Form: live\"],\"refused\":true}\n",
-        0,
+        false,
     ),
     // A record is an object; a line that asks for one by itself has the same.
     (
@@ -37,40 +37,40 @@ static ANSWERED: [Row; 11] = [
         b"trace-data 1\nprofile-data 0\n",
         b"{\"line\":\"trace-data 1\",\"reply\":[{\"ran\":\"0 rest\",\"state\":\"the operator halted the machine, or has not started it: press start to continue\"}],\"refused\":false}\n\
         {\"line\":\"profile-data 0\",\"reply\":[{\"orders\":0,\"times\":0,\"turns\":\"0.0\",\"find\":0,\"take\":0,\"seek\":0,\"act\":0,\"elsewhere\":0},{\"ran\":\"0 rest\",\"state\":\"the operator halted the machine, or has not started it: press start to continue\"}],\"refused\":false}\n",
-        0,
+        false,
     ),
     (
         Manner::Json,
         b"json cost 0000\njson panel\n",
         b"{\"line\":\"json cost 0000\",\"reply\":[{\"address\":\"0000\",\"label\":null,\"order\":\"z 0000\",\"find\":64,\"take\":1,\"seek\":1,\"act\":1,\"sum\":67,\"next\":\"0001\",\"next-label\":null,\"next-find\":6}],\"refused\":false}\n\
         {\"line\":\"json panel\",\"reply\":[\"? 1 Form: json LINE, where LINE is one for programs, such as state-data\"],\"refused\":true}\n",
-        0,
+        false,
     ),
     (
         Manner::Json,
         b"words 0000 2\n",
         b"{\"line\":\"words 0000 2\",\"reply\":[\"0000 00000000\",\"0001 00000000\"],\"refused\":false}\n",
-        0,
+        false,
     ),
     (
         Manner::Json,
         b"do two lines\n",
         b"{\"line\":\"put 0000 = 1\",\"reply\":[\"ok\"],\"refused\":false,\"from\":\"line 1 of two lines\"}\n\
         {\"line\":\"words 0000 1\",\"reply\":[\"0000 00000002\"],\"refused\":false,\"from\":\"line 2 of two lines\"}\n",
-        0,
+        false,
     ),
     (
         Manner::Json,
         b"do none\nquit\nlive\n",
         b"{\"reply\":[\"? 13 File none: it cannot be opened\"],\"refused\":true}\n",
-        0,
+        false,
     ),
     (
         Manner::Json,
         b"save kept\nrestore drum\n",
         b"{\"reply\":[\"saved kept\"],\"refused\":false}\n\
         {\"line\":\"restore drum\",\"reply\":[\"restored 2\"],\"refused\":false,\"from\":\"drum\"}\n",
-        0,
+        false,
     ),
     (
         Manner::Json,
@@ -78,7 +78,7 @@ static ANSWERED: [Row; 11] = [
         b"{\"line\":\"source\",\"reply\":[],\"refused\":false}\n\
         {\"line\":\" foo\",\"reply\":[],\"refused\":false}\n\
         {\"reply\":[\"? 9 Faults\",\"line 1 UnknownOrder\",\"line 2 NoEnd\"],\"refused\":true}\n",
-        0,
+        false,
     ),
 ];
 
@@ -94,7 +94,7 @@ fn each_line_has_its_object(rt: HostRuntime) {
 fn has_front(alloc: Global) -> bool {
     let mut written = Vec::new(alloc);
     let answer = run(alloc, Manner::Json, &LONGER, &mut written);
-    is_done(answer, 0)
+    is_done(answer, false)
         && written.starts_with(b"{\"line\":\";;;;")
         && written.ends_with(b";;;; ..\",\"reply\":[],\"refused\":false}\n")
         && written.len() == 4138

@@ -1,21 +1,25 @@
 //! What is kept in files: each row's bytes are written out by hand.
 
+ghost use Rattle.std.specs.Prelude.{Some, codes};
+
 use super::answer;
 use crate::{expect_eq, is_done};
-use lgp_desk::{Filing, Manner};
+use lgp_desk::{Files, Manner};
 use lgp_lab::{FeedOf, READS};
 use lgp_monitor::Silence;
 use std::alloc::Global;
 use std::cell::Cell;
 
-/// Files of which one may be written, and whether these bytes were to be kept at last.
+/// Files that all hold a tape, of which one may be written, and whether these bytes were to be kept at last.
 #[derive(Clone, Copy, Drop)]
 struct Wanting<'a> {
     wanted: &'static [u8],
     is_kept: &'a Cell<bool>,
 }
 
-impl Filing for Wanting<'_> {
+impl Files for Wanting<'_> {
+    ghost known = { λ files name. Some (codes "12[16]3'") };
+
     type Reader = FeedOf<&'static [u8]>;
 
     fn open(&self, _name: &str) -> Option<FeedOf<&'static [u8]>> {
@@ -72,8 +76,8 @@ fn is_kept(alloc: Global, row: &Row) -> bool {
         is_kept: &is_kept,
     };
     let mut written = Vec::new(alloc);
-    let outcome = answer(alloc, Manner::Bare, wanting, Silence, row.0, &mut written);
-    is_done(outcome, 0) && is_kept.get() && written.as_slice().ends_with(b"saved kept\n")
+    let outcome = answer(alloc, Manner::Bare, &wanting, Silence, row.0, &mut written);
+    is_done(outcome, false) && is_kept.get() && written.as_slice().ends_with(b"saved kept\n")
 }
 
 /// How many rows come before the first whose bytes are not kept.

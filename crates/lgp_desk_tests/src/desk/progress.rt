@@ -154,7 +154,7 @@ fn is_answered(
         && answer(
             alloc,
             Manner::Bare,
-            Made,
+            &Made,
             listener,
             typed.as_slice(),
             written,

@@ -4,7 +4,7 @@ ghost use Rattle.std.specs.Prelude.{◌≡◌, false};
 
 use super::Made;
 use crate::expect_eq;
-use lgp_desk::{FilesOf, Filing, Manner, obey_session};
+use lgp_desk::{Files, Manner, obey_session};
 use lgp_lab::{Feed, FeedOf, READS, Sink, SinkOf, WordFault};
 use lgp_monitor::Silence;
 use std::alloc::Global;
@@ -28,11 +28,11 @@ fn push_word(alloc: Global, words: &mut Vec<String>, word: &str) -> bool {
 }
 
 /// The status for words, with these files and this input.
-fn obeyed<F: Filing + Drop, R: Feed, W: Sink, M: Sink>(
+fn obeyed<F: Files, R: Feed, W: Sink, M: Sink>(
     alloc: Global,
     words: Result<&[String], WordFault>,
     manner: Manner,
-    filing: F,
+    files: &F,
     input: &mut R,
     output: &mut W,
     messages: &mut M,
@@ -41,15 +41,7 @@ fn obeyed<F: Filing + Drop, R: Feed, W: Sink, M: Sink>(
     requires messages { M.failed messages.old ≡ false }
 {
     obey_session(
-        alloc,
-        alloc,
-        words,
-        manner,
-        FilesOf::new(filing),
-        Silence,
-        input,
-        output,
-        messages,
+        alloc, alloc, words, manner, files, Silence, input, output, messages,
     )
 }
 
@@ -68,7 +60,7 @@ fn status_for(
         alloc,
         words,
         manner,
-        Made,
+        &Made,
         &mut input,
         &mut output,
         &mut messages,

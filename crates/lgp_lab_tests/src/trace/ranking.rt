@@ -1,11 +1,11 @@
-//! The words with most to gain, against numbers made by hand.
+//! The words with most to gain and the dearest places, against numbers made by hand.
 
 use super::address;
 use super::optimum::optimum_of_a_sum;
 use crate::{end_of, expect_eq, in_turn};
 use lgp_limited::Limited;
 use lgp_optimum::{Freedom, Gain, Optimum, push_optimum, push_word_optimum};
-use lgp_trace::NoLabels;
+use lgp_trace::{Dear, NoLabels, better_after};
 use std::alloc::{Allocator, Global};
 
 /// A word, its best sector, and what it saves there.
@@ -134,4 +134,74 @@ fn each_growth_refused(rt: HostRuntime) {
         None => [false; 2],
     };
     expect_eq(&rt, (growths, limited.blocks_out()), ([true; 2], 0));
+}
+
+/// The better of the best so far and a place, where none comes before them.
+fn better(best: Option<Dear>, here: Dear) -> Option<Dear> {
+    better_after(None, best, here)
+}
+
+/// The place, if it comes after one.
+fn after(last: Dear, here: Dear) -> Option<Dear> {
+    better_after(Some(last), None, here)
+}
+
+/// A place that has no word times is never the best. One with more is better, and of two with as many the one at the lower address.
+#[test]
+fn the_better_of_two_places(rt: HostRuntime) {
+    let most = u64::MAX;
+    let seen = [
+        better(None, (5, 3)),
+        better(None, (5, 0)),
+        better(Some((2, 9)), (5, 10)),
+        better(Some((2, 9)), (5, 8)),
+        better(Some((2, 9)), (5, 9)),
+        better(Some((7, 9)), (5, 9)),
+        better(Some((7, 9)), (5, 0)),
+        better(Some((4095, most)), (0, most)),
+        better(Some((0, most)), (u16::MAX, most)),
+    ];
+    let wanted = [
+        Some((5, 3)),
+        None,
+        Some((5, 10)),
+        Some((2, 9)),
+        Some((2, 9)),
+        Some((5, 9)),
+        Some((7, 9)),
+        Some((0, most)),
+        Some((0, most)),
+    ];
+    expect_eq(&rt, seen, wanted);
+}
+
+/// Only a place with fewer word times comes after one, or with as many at a higher address.
+#[test]
+fn the_place_after_one(rt: HostRuntime) {
+    let most = u64::MAX;
+    let seen = [
+        after((3, 9), (5, 9)),
+        after((3, 9), (2, 8)),
+        after((5, 9), (5, 9)),
+        after((7, 9), (5, 9)),
+        after((5, 9), (7, 10)),
+        after((5, 9), (7, 0)),
+        after((0, most), (1, most)),
+        better_after(Some((5, 9)), Some((6, 4)), (2, 10)),
+        better_after(Some((5, 9)), Some((6, 4)), (7, 8)),
+        better_after(Some((5, 9)), Some((6, 8)), (7, 8)),
+    ];
+    let wanted = [
+        Some((5, 9)),
+        Some((2, 8)),
+        None,
+        None,
+        None,
+        None,
+        Some((1, most)),
+        Some((6, 4)),
+        Some((7, 8)),
+        Some((6, 8)),
+    ];
+    expect_eq(&rt, seen, wanted);
 }

@@ -1,0 +1,5 @@
+use Rattle.lgp_desk.specs.ServedInside.{HasToldFirsts}
+use Rattle.lgp_desk.proofs.answering.tell_firsts.Given as goal
+
+abbrev pub invariant-loop-name : goal.invariant-loop-name
+invariant-loop-name g l = HasToldFirsts (g.F.Files.known l.files) l.fn.desk l.desk l.names l.name-index (g.W.Sink.contents l.fn.writer) (g.W.Sink.contents l.writer)
