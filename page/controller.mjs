@@ -1,6 +1,6 @@
 // The controller. All that the page does is lines to the monitor, and all that it knows are their replies.
 import { ActionHistory } from "./action_history.mjs";
-import { PLACES, addressIn, addressOf, addressesFrom, isAmong, numberOf, trackOf, windowAt } from "./addresses.mjs";
+import { PLACES, addressOf, addressesFrom, isAmong, numberOf, partsOfOrder, trackOf, windowAt } from "./addresses.mjs";
 import { commandIn, commentsIn, isIdle, linesIn, plainOf, setUp } from "./lines.mjs";
 import { LIMITS, MemoryBudget } from "./memory_budget.mjs";
 import * as replies from "./module/replies.mjs";
@@ -37,7 +37,7 @@ export class Controller extends EventTarget {
     words = [];
     track = [];
     printed = { count: 0, text: "" };
-    /** The accounts of the last orders and the rows of their turns, as far as these orders were told; and the last profile. */
+    /** The accounts of the last orders, each with the `word` that its order used, and the rows of their turns, as far as these orders were told; and the last profile. */
     accounts = [];
     rows = [];
     profile = null;
@@ -88,6 +88,7 @@ export class Controller extends EventTarget {
     #live = { live: new Set(), way: { kind: "go" } };
     #commands = new Map();
     #questions = new Set();
+    #waiting = new Set();
     #tail = Promise.resolve();
     #stops = false;
     #said = [];
@@ -109,11 +110,11 @@ export class Controller extends EventTarget {
         this.#transcript = new Transcript(link);
     }
 
-    /** Opens the laboratory, and asks which commands there are. */
+    /** Opens the laboratory, and asks which commands there are, and which operations wait for a word. */
     open() {
         return this.#act(async () => {
             await this.#link.opened;
-            this.#commands = await this.#queries.commands();
+            [this.#commands, this.#waiting] = await Promise.all([this.#queries.commands(), this.#queries.waiting()]);
             this.#questions = new Set([...this.#commands].filter(([, { asks }]) => asks).map(([name]) => name));
             await this.#look();
         });
@@ -142,6 +143,17 @@ export class Controller extends EventTarget {
     /** All that was done so far was not the reader's doing: it counts from here on. */
     countFromHere() {
         this.#isTouched = false;
+    }
+
+    /** Whether an order with a letter uses the word at its address. */
+    usesWord(letter) {
+        return this.#waiting.has(letter);
+    }
+
+    /** The address of the word that an order uses, or null where it uses none. */
+    wordOf(order) {
+        const { letter, address } = partsOfOrder(order);
+        return this.usesWord(letter) ? address : null;
     }
 
     /** The lines that lead here from a new laboratory, as they were sent, without those that the page asked for itself. */
@@ -364,7 +376,7 @@ export class Controller extends EventTarget {
         if (isRefused) this.#forgetHistory();
         else this.#noteEnd(replies.runOf(end), isAgain);
         if (isReport && verb === "profile-data") this.profile = replies.profileOf(told);
-        if (isReport && verb === "trace-data") this.#noteTold(replies.accountsOf(told), before);
+        if (isReport && verb === "trace-data") this.#noteTold(this.#accountsOf(told), before);
         if (verb === "drum") this.rows = replies.drumRowsOf(told);
         if (isReport && verb === "optimum-data" && word !== undefined) this.#costsOfLine = costsIn(reply);
         if (verb === "profile") this.profile = null;
@@ -377,6 +389,11 @@ export class Controller extends EventTarget {
         this.#forgetHistory();
         this.performed += starts * limit;
         this.#budget.ran(starts * limit);
+    }
+
+    /** The accounts that records tell, each with the word that its order used. */
+    #accountsOf(records) {
+        return replies.accountsOf(records).map((account) => ({ ...account, word: this.wordOf(account.order) }));
     }
 
     /** The last orders were told, after others. */
@@ -396,7 +413,7 @@ export class Controller extends EventTarget {
             const { told, end } = replies.reportOf(reply);
             if (verb === "profile") this.profile = replies.profileOf(told);
             else if (verb === "optimum") this.#costsOfLine = costsIn(reply);
-            else this.accounts = [...before, ...replies.accountsOf(told)].slice(-ACCOUNTS_KEPT);
+            else this.accounts = [...before, ...this.#accountsOf(told)].slice(-ACCOUNTS_KEPT);
             return !replies.isRefusal(end);
         });
     }
@@ -686,7 +703,7 @@ export class Controller extends EventTarget {
             const { told, end } = orders === 0 ? { told: [], end: "" } : replies.reportOf(await this.#ask(`json trace-data ${orders}`));
             await this.#askAll(rules);
             if (replies.isRefusal(end)) return false;
-            this.accounts = replies.accountsOf(told);
+            this.accounts = this.#accountsOf(told);
             return true;
         });
     }
@@ -856,7 +873,7 @@ export class Controller extends EventTarget {
         return this.#question(async () => {
             const isTold = this.history.unbroken <= PLACED_AT_MOST;
             const told = await this.#overLast([...(isTold ? [(orders) => `json trace-data ${orders}`] : []), ...addresses.map((address) => (orders) => `json optimum-data ${orders} ${address}`)]);
-            const accounts = isTold ? replies.accountsOf(replies.reportOf(told.shift()).told) : [];
+            const accounts = isTold ? this.#accountsOf(replies.reportOf(told.shift()).told) : [];
             return { accounts, words: told.map(costsIn) };
         }).then((told) => told ?? null);
     }
@@ -922,9 +939,9 @@ export class Controller extends EventTarget {
         return this.#question(() => this.#transcript.script());
     }
 
-    /** The address in the order that comes next, or null where its word is not shown. */
+    /** The address of the word that the next order uses, or null where it uses none, or is not shown. */
     get operand() {
         const next = this.words.find(({ address }) => address === this.panel?.counter);
-        return next === undefined || next.order.startsWith("word") ? null : addressIn(next.order);
+        return next === undefined ? null : this.wordOf(next.order);
     }
 }

@@ -3,7 +3,6 @@
 import { PLACES, SECTORS, addressOf, numberOf, placesTo, sectorOf } from "./addresses.mjs";
 import { columnOf, tokensOf } from "./language.mjs";
 import { linesIn } from "./lines.mjs";
-import { wordOf } from "./views/says.mjs";
 
 /** The sum of the word times of accounts. */
 export const timesOf = (accounts) => accounts.reduce((sum, account) => sum + account.sum, 0);
@@ -12,9 +11,8 @@ export const timesOf = (accounts) => accounts.reduce((sum, account) => sum + acc
 export function elsewhere(accounts, sectorOfWord) {
     let clock = accounts[0]?.clock;
     return accounts.map((account) => {
-        const { at, inRegister, order, take, act } = account;
+        const { at, inRegister, word, take, act } = account;
         const find = inRegister || at === null ? account.find : placesTo(sectorOf(at), clock);
-        const word = wordOf(order);
         const seek = word === null ? account.seek : placesTo(sectorOfWord(word), clock + BigInt(find + take));
         const moved = { ...account, clock, find, seek, sum: find + take + seek + act };
         clock += BigInt(moved.sum);
@@ -123,10 +121,10 @@ export function withWordAt(source, said, address, place) {
 async function withOneMoved(checker, source, accounts, address, sector) {
     const said = await checker.ask(source);
     if (!said?.isRight) return { wrong: "faulty" };
-    const users = accounts.filter(({ order }) => wordOf(order) === address).map(({ at }) => at);
+    const users = accounts.filter(({ word }) => word === address).map(({ at }) => at);
     if ([address, ...users].some((at) => at === null || said.lineAt(at) === null)) return { wrong: "notInSource" };
     const words = linesIn(source).flatMap((unused, line) => said.wordOf(line + 1)?.place ?? []);
-    const place = freePlace(sector, new Set([...words, ...accounts.map(({ order }) => wordOf(order))]));
+    const place = freePlace(sector, new Set([...words, ...accounts.map(({ word }) => word)]));
     if (place === null) return { wrong: "noFreePlace" };
     const text = withWordAt(source, said, address, place);
     const moved = await checker.ask(text);

@@ -1,7 +1,6 @@
 // Queries about the machine. Each is made of questions that leave no trace in the transcript, so that what is saved are the reader's lines alone.
 import { SECTORS, addressOf, sectorAt } from "./addresses.mjs";
 import * as replies from "./module/replies.mjs";
-import { wordOf } from "./views/says.mjs";
 
 /** How many words are shown around the counter. */
 export const SHOWN = 16;
@@ -17,6 +16,11 @@ export class Queries {
     /** The commands by their names. */
     async commands() {
         return replies.commandsOf(await this.#link.ask("commands"));
+    }
+
+    /** The operations that wait for the word at their address. */
+    async waiting() {
+        return replies.waitingOf(await this.#link.ask("json operations-data"));
     }
 
     /** The panel, what is live, and what lets the machine go on. */
@@ -67,8 +71,8 @@ export function costsIn(reply) {
 const waited = (times, sign) => (times === 0 ? "" : ".".repeat(times - 1) + sign);
 
 /** The signs of an order along the drum, one for each word time, as `drum` draws them. */
-function signsOf({ order, find, take, seek, act, stored }) {
-    const sought = wordOf(order) === null ? "-".repeat(seek) : waited(seek, stored === null ? "R" : "W");
+function signsOf({ word, find, take, seek, act, stored }) {
+    const sought = word === null ? "-".repeat(seek) : waited(seek, stored === null ? "R" : "W");
     return [waited(find, "F"), "i".repeat(take), sought, "x".repeat(act)].join("");
 }
 

@@ -3,7 +3,7 @@ import { FileTrouble, keepFile } from "./files.mjs";
 import { Help } from "./help.mjs";
 import { END, INTERRUPT } from "./keyboard.mjs";
 import { isLonger, linesIn, textFrom, withoutReturn, wordsOf } from "./lines.mjs";
-import { isRefusal, liveOf, ordersOf, panelOf, runOf } from "./replies.mjs";
+import { heldOf, isRefusal, liveOf, ordersOf, panelOf, refusalOf, runOf } from "./replies.mjs";
 import { meantBy } from "./shortcuts.mjs";
 import { Views, narrowTrace } from "./views.mjs";
 
@@ -208,10 +208,12 @@ export class Front {
     }
 
     async #around(address = "*", count = "7") {
-        // the monitor says which address that is, or why it is none
-        const reply = await this.#engine.ask(`numbers ${address} ${count}`);
-        if (isRefusal(reply)) return this.#say(reply.replace(/numbers ttss.*/, "around ttss NUMBER, at most 64"));
-        this.#note((await this.#views.around(reply.slice(0, 4), Number(count))).join("\n"));
+        // the monitor says which address that is, or why it is none, and whether so many words can be shown
+        const told = await this.#engine.ask(`json show-data ${address} 1`);
+        if (isRefusal(told)) return this.#say(told);
+        if (isRefusal(await this.#engine.ask(`json show-data 0000 ${count}`))) return this.#say("? 1 Form: around ttss NUMBER, at most 64\n");
+        const [{ address: middle }] = heldOf(told);
+        this.#note((await this.#views.around(middle, Number(count))).join("\n"));
     }
 
     /** `go`: its eight lines are in the transcript, and one line says what came of them. */
@@ -232,7 +234,9 @@ export class Front {
 
     async #traceNarrow(limit) {
         const reply = await this.#engine.type(`json trace-data ${limit}`);
-        this.#say(isRefusal(reply) ? reply.replaceAll("json trace-data", "trace") : narrowTrace(reply).map((row) => `${row}\n`).join(""));
+        // what is no number has done nothing: the line as it was typed is refused in its own words
+        if (isRefusal(reply) && refusalOf(reply).kind === "Form") return this.#answer(`trace ${limit}`);
+        this.#say(isRefusal(reply) ? reply : narrowTrace(reply).map((row) => `${row}\n`).join(""));
         await this.#keep();
     }
 

@@ -321,6 +321,9 @@ export const commandsOf = (reply) => new Map(linesOf(reply).map((line) => {
     return [name, { asks: asks === "asks", takes: takes.join(" ") }];
 }));
 
+/** The operations that wait for the word at their address, of a reply of `operations-data`. */
+export const waitingOf = (reply) => new Set(recordsOf(reply).filter((record) => valueOf(record, "waits") === "yes").map((record) => valueOf(record, "operation")));
+
 // The signs of codes, as docs/FORMATS.md lists them. A group such as [16] is a code that has no sign.
 const SIGNS = new Map([
     ...[..."0123456789fgjkqw"].map((sign, digit) => [sign, 4 * digit + 2]),

@@ -7,6 +7,7 @@ import { test } from "node:test";
 import { fileURLToPath } from "node:url";
 import { Controller } from "../controller.mjs";
 import { LIMITS } from "../memory_budget.mjs";
+import { recordsOf } from "../module/replies.mjs";
 import { NoMemory } from "../module/session.mjs";
 import { ModuleLink } from "../module_link.mjs";
 import { NativeLink } from "./native.mjs";
@@ -46,6 +47,20 @@ live("what is live is what the monitor says at each look", async (laboratory) =>
     assert.equal(await after("press oneop"), "normal oneop manual start clear fill execute");
     assert.equal(await after("press normal", "put 0000 i", "press start"), "normal oneop manual");
     assert.equal(await after("orders 1"), "normal oneop manual compute read keys stop");
+});
+
+live("which orders use a word is what the monitor says of its operations", async (laboratory, link) => {
+    const letters = [..."zbyridnmpeuthcas"];
+    const waits = new Map(recordsOf(await link.ask("json operations-data")).map((record) => [record.get("operation"), record.get("waits") === "yes"]));
+    assert.deepEqual(letters.map((letter) => laboratory.usesWord(letter)), letters.map((letter) => waits.get(letter)));
+    assert.deepEqual(letters.filter((letter) => laboratory.wordOf(`${letter} 0020`) === null).join(""), "ziput");
+    assert.deepEqual(["b 0050 table+1", "-t 0007", "word 0000001f", "halted stop", ""].map((text) => laboratory.wordOf(text)), ["0050", null, null, null, null]);
+    await laboratory.say("put 0000 b 0050", "put 0001 u 0000", "press start");
+    assert.equal(laboratory.operand, "0050");
+    await laboratory.step();
+    assert.deepEqual([laboratory.operand, laboratory.accounts.at(-1).word], [null, "0050"]);
+    await laboratory.step();
+    assert.deepEqual([laboratory.operand, laboratory.accounts.at(-1).word], ["0050", null]);
 });
 
 live("a step is told, gone back over and performed again", async (laboratory) => {

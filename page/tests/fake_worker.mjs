@@ -18,6 +18,7 @@ const answers = {
     show: (first, count) => words(first, Number(count), "b 0050"),
     paper: () => "paper 6\nab\nc d\n",
     commands: () => "words asks range\npaper asks alone\ntrace-data does number\n",
+    "operations-data": () => told({ operation: "b", waits: "yes" }, { operation: "h", waits: "yes" }, { operation: "z", waits: "no" }),
     "trace-data": () => {
         clock += 73;
         return told({

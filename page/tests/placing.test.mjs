@@ -126,7 +126,7 @@ test("the words of the sum are those of its example, and with three of them else
 });
 
 test("waits are drawn only where their sum is what the monitor says", () => {
-    const account = { clock: 0n, at: "0000", order: "b 0050", find: 64, take: 1, seek: 1, act: 1, sum: 67 };
+    const account = { clock: 0n, at: "0000", order: "b 0050", word: "0050", find: 64, take: 1, seek: 1, act: 1, sum: 67 };
     const sectors = Array.from({ length: SECTORS }, (unused, sector) => ({ sector, times: sector === 50 ? 67 : 131 }));
     const placing = new Placing([account], [{ address: "0050", times: 67, saved: 0, sectors }]);
     assert.deepEqual(placing.drawn.map(({ find, seek }) => [find, seek]), [[64, 1]]);

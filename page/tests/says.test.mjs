@@ -1,24 +1,23 @@
 import assert from "node:assert/strict";
 import { test } from "node:test";
-import { letterOf, rewrittenBy, saysOf, wordOf } from "../views/says.mjs";
+import { letterOf, rewrittenBy, saysOf } from "../views/says.mjs";
 import { LANGUAGES } from "../words.mjs";
 
-/** An account as the reader of replies makes it, with these fields. */
-const account = (fields) => ({ order: "b 0020", at: "0004", find: 24, take: 1, seek: 15, act: 1, before: "00000000", after: "00000000", stored: null, printed: null, passed: 0, ...fields });
+/** An account as the controller has it, with these fields. */
+const account = (fields) => ({ order: "b 0020", word: "0020", at: "0004", find: 24, take: 1, seek: 15, act: 1, before: "00000000", after: "00000000", stored: null, printed: null, passed: 0, ...fields });
 const word = (digits, order = null) => ({ digits, order, number: 0 });
 
-test("an order as it is written has a letter, and the address of its word where it uses one; another text has neither", () => {
-    const partsOf = (order) => [letterOf(order), wordOf(order)];
-    assert.deepEqual(["b 0050", "b 0050 table+1", "u 0007 loop", "-t 0007"].map(partsOf), [["b", "0050"], ["b", "0050"], ["u", null], ["t", null]]);
-    assert.deepEqual(["word 0000001f", "halted stop", "reading", ""].map(partsOf), [[null, null], [null, null], [null, null], [null, null]]);
+test("an order as it is written has a letter; another text has none", () => {
+    assert.deepEqual(["b 0050", "b 0050 table+1", "u 0007 loop", "-t 0007"].map(letterOf), ["b", "b", "u", "t"]);
+    assert.deepEqual(["word 0000001f", "halted stop", "reading", ""].map(letterOf), [null, null, null, null]);
 });
 
 test("an order that uses a word tells both waits, one that uses none tells the first alone", () => {
     const { kind, waits, values } = saysOf(account());
     assert.deepEqual([kind, waits, values.m, values.f, values.s], ["b", "waitsOrderWord", "0020", 24, 15]);
-    for (const letter of "ziput") assert.equal(saysOf(account({ order: `${letter} 0020` })).waits, "waitsOrder", letter);
-    assert.deepEqual(["b 0020", "u 0020"].map((order) => saysOf(account({ order, at: null, find: 0 })).waits), ["waitsRegisterWord", "waitsRegister"]);
-    assert.deepEqual((({ kind: name, waits: wait }) => [name, wait])(saysOf(account({ order: "reading" }))), ["other", null]);
+    assert.equal(saysOf(account({ order: "u 0020", word: null })).waits, "waitsOrder");
+    assert.deepEqual(["0020", null].map((word) => saysOf(account({ word, at: null, find: 0 })).waits), ["waitsRegisterWord", "waitsRegister"]);
+    assert.deepEqual((({ kind: name, waits: wait }) => [name, wait])(saysOf(account({ order: "reading", word: null }))), ["other", null]);
 });
 
 test("a test tells what it has found: the sign, or the switch where the order has a sign of its own", () => {

@@ -1,6 +1,6 @@
 // Visits of the workbench: all of it is in one window, nothing moves when a run begins or something is printed, the last orders are told after each run, and the map of the drum tells of its words.
 import assert from "node:assert/strict";
-import { boxes, hiddenTexts, laidOut, unhit } from "./seen.mjs";
+import { boxes, hiddenTexts, laidOut, unhit, unseenAtLast } from "./seen.mjs";
 
 const settled = (browser) => browser.value("laboratoryOfPage().settled()");
 const textOf = (browser, selector) => browser.value(`document.querySelector(${JSON.stringify(selector)})?.innerText ?? ""`);
@@ -136,6 +136,57 @@ async function nothingMovesMeanwhile(browser, address) {
     assert.deepEqual([await browser.value("document.activeElement.closest('#kept') !== null && document.activeElement.checkVisibility()"), await outOfPlace(browser)], [true, []]);
     await browser.halt();
     await settled(browser);
+}
+
+/** What is told of a run is seen without scrolling, and so is the sentence above it: while the run goes on, after it, and where a program waits for its operator. */
+async function runToldWhole(browser, address) {
+    for (const code of ["en", "de"]) for (const [width, height] of [[1280, 720], [1366, 768], [1440, 900]]) {
+        const whole = async (when) => {
+            const missing = await unseenAtLast(browser, [".tells .way", "#progress", ".when output", ".clock-turn"]);
+            assert.deepEqual([missing, await outOfPlace(browser), await browser.value("(({ scrollHeight, clientHeight }) => scrollHeight <= clientHeight)(document.querySelector('.tells'))")], [[], [], true], `${code} at ${width} by ${height}, ${when}`);
+        };
+        await browser.size(width, height);
+        await browser.open(`${address}?lang=${code}&door=work`);
+        await browser.write(ENDLESS);
+        await browser.waitFor("/No fault|Kein Fehler/.test(document.querySelector('.source .told').textContent)");
+        await browser.press("#run-program");
+        await browser.waitFor("laboratoryOfPage().progress !== null && document.querySelector('#progress').checkVisibility()");
+        await whole("while it goes on");
+        await browser.halt();
+        await settled(browser);
+        await whole("after it");
+        await browser.open(`${address}?lang=${code}&door=work#input-and-output/decimal-input`);
+        await press(browser, "#go-on");
+        await whole("where keys are waited for");
+    }
+    await browser.size(1500, 1250);
+}
+
+/** What each tab of a telephone has that is needed first. */
+const FIRST = {
+    write: [".source .editor", ".verdict", "#load"],
+    machine: [".status-of", ".drum-box", ".console .square", ".console .lever"],
+    memory: [".listing tr.next", ".listing form input", ".listing form button"],
+    typewriter: [".sheet", ".tape input", ".tape button"],
+};
+
+/** On a small telephone nothing has to be scrolled to what is needed first, under no tab. */
+async function smallTelephone(browser, address) {
+    // the window of WebKit does not become as narrow as 320 pixels
+    const sizes = browser.engine === "WebKit" ? [[360, 640]] : [[320, 640], [360, 640]];
+    for (const code of ["en", "de"]) for (const [width, height] of sizes) {
+        await browser.size(width, height);
+        await browser.open(`${address}?lang=${code}&door=work#self-modifying`);
+        await settled(browser);
+        for (const [tab, first] of Object.entries(FIRST)) {
+            await browser.press(`#tab-phone-${tab}`);
+            await laidOut(browser);
+            const missing = await unseenAtLast(browser, [...first, ".phone-tabs > .tablist button", ".along input", "#run-program", ".drive", ".paces label", ".tells", ".when"]);
+            assert.deepEqual([missing, await notWhole(browser, false)], [[], []], `${code}, ${tab} at ${width} by ${height}`);
+            assert.deepEqual(await browser.value("[document.documentElement.scrollHeight <= innerHeight, document.documentElement.scrollWidth <= innerWidth]"), [true, true], `${code}, ${tab} at ${width} by ${height}`);
+        }
+    }
+    await browser.size(1500, 1250);
 }
 
 /** A notice of any height gives the window no bar. */
@@ -308,7 +359,7 @@ async function sourceToldFirst(browser, address) {
     await says(/^Ein Fehler im Quelltext: erst beheben, dann starten\. In der Maschine ist, was zuletzt geladen wurde\.$/);
 }
 
-const VISITS = { oneWindow, seenWhole, nothingMoves, lastOrders, drumMap, paceRow, tapeMoves, sourceToldFirst };
+const VISITS = { oneWindow, seenWhole, runToldWhole, smallTelephone, nothingMoves, lastOrders, drumMap, paceRow, tapeMoves, sourceToldFirst };
 
 /** The visits of the workbench of the page at an address, by their names. */
 export const visitsOfWorkbench = (address) => Object.fromEntries(Object.entries(VISITS).map(([name, visit]) => [name, (browser) => visit(browser, address)]));

@@ -1,7 +1,6 @@
 // The card: the sixteen orders and which of them wait for a word, what else a source may have, and the keys. It lies beside what is written, and goes away by the key that has brought it.
 import { OTHERS } from "../language.mjs";
 import { button, h } from "./dom.mjs";
-import { isWithoutWord } from "./says.mjs";
 
 /** How the console's card lists the orders. */
 const ORDERS = [..."bhcasmndeyrutpiz"];
@@ -10,8 +9,8 @@ const rowsOf = (rows) => h("tbody", {}, ...rows.map(([name, meaning, more]) => h
 const tableOf = (caption, heads, rows) => h("table", {}, h("caption", {}, caption), h("thead", {}, h("tr", {}, ...heads.map((head) => h("th", { scope: "col" }, head)))), rowsOf(rows));
 
 /** The card. `operation` tells which operation is in the line that is written. */
-export function makeCard({ text, table }, operation) {
-    const orders = ORDERS.map((letter) => [letter, table.orders[letter], text(isWithoutWord(`${letter} 0000`) ? "cardNoWord" : "cardWord")]);
+export function makeCard(laboratory, { text, table }, operation) {
+    const orders = ORDERS.map((letter) => [letter, table.orders[letter], text(laboratory.usesWord(letter) ? "cardWord" : "cardNoWord")]);
     const others = OTHERS.map((name) => [name, table.otherOperations[name], table.rightOperand[name] ?? table.rightOperand.order]);
     const away = button(text("close"), () => show(false), { id: "card-close" });
     const node = h("aside", { class: "card", id: "card", "aria-label": text("card"), tabindex: "-1", hidden: true }, h("div", { class: "line" }, h("h2", {}, text("card")), away),

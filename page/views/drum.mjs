@@ -5,7 +5,6 @@ import { bitsOf } from "../module/replies.mjs";
 import { PHASES } from "../player.mjs";
 import { h, part, s } from "./dom.mjs";
 import { apart, inRadians, turned } from "./pins.mjs";
-import { isWithoutWord, wordOf } from "./says.mjs";
 
 /** The centre of the picture of 800 to 720, and what one word time turns. */
 export const [X, Y] = [400, 372];
@@ -207,15 +206,14 @@ function stroke(pen, { from, to, width }, colour, { radius, pitch, turns, fainte
 }
 
 /** What the drum shows where the machine rests: the panel's place. */
-function atRest({ panel, operand, words }, isFast) {
-    const order = words.find(({ address }) => address === panel.counter)?.order ?? "";
-    return { clock: panel.clock, offset: 0, phase: isFast ? "turns" : null, next: panel.counter, operand: isWithoutWord(order) ? null : operand, left: 0, count: isFast ? "↻" : "–", isReading: false, written: null };
+function atRest({ panel, operand }, isFast) {
+    return { clock: panel.clock, offset: 0, phase: isFast ? "turns" : null, next: panel.counter, operand, left: 0, count: isFast ? "↻" : "–", isReading: false, written: null };
 }
 
 /** What it shows while an order is played. */
 function whilePlayed({ account, offset, phase, counter, left }) {
     const sign = account.printed === null ? account.order.trim()[0] : account.printed.sign ?? "·";
-    return { clock: account.clock, offset, phase, next: counter, operand: wordOf(account.order), left, count: left > 0 ? String(Math.ceil(left)) : sign, isReading: left > 0 && left <= 1, written: null };
+    return { clock: account.clock, offset, phase, next: counter, operand: account.word, left, count: left > 0 ? String(Math.ceil(left)) : sign, isReading: left > 0 && left <= 1, written: null };
 }
 
 /** Rings in place of the trail, where it passes too fast to be read: one for each of the last turns, as strong as the share of a phase in it. */

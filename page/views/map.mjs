@@ -1,7 +1,6 @@
 // The map of the drum: its 64 tracks as rows and its 64 sectors as columns, as they pass the head or by their numbers. A word is as the last told orders left it: performed, read, written, or there.
 import { SECTORS, addressOf, numberOf, positionOf, sectorAt } from "../addresses.mjs";
 import { button, h, part, tell } from "./dom.mjs";
-import { wordOf } from "./says.mjs";
 
 /** The room for the numbers of tracks and sectors; the height of a track with words, and of one without; the last orders that are drawn full. */
 const [LEFT, TOP, HIGH, LOW, YOUNG] = [22, 14, 16, 2, 9];
@@ -10,8 +9,7 @@ const KINDS = ["performed", "read", "written"];
 const COLOURS = { performed: "--in-find", read: "--in-seek", written: "--in-write", loaded: "--spots", next: "--in-next", ground: "--well", text: "--ink", chosen: "--numbers" };
 
 /** What an account did with words of the drum: the place of its order, and the word that it read or wrote. */
-function usesOf({ at, order, stored }) {
-    const word = wordOf(order);
+function usesOf({ at, word, stored }) {
     const used = stored !== null ? { address: stored.address, kind: "written" } : word === null ? null : { address: word, kind: "read" };
     return [...(at === null ? [] : [{ address: at, kind: "performed" }]), ...(used === null ? [] : [used])];
 }

@@ -7,7 +7,6 @@ import { counted } from "../words.mjs";
 import { button, guarded, h, refill, s, showLive, tell } from "./dom.mjs";
 import { PEN, makeKey, makePicture, passed } from "./drum.mjs";
 import { makeGrips } from "./hand.mjs";
-import { wordOf } from "./says.mjs";
 import { makeBar } from "./story.mjs";
 
 /** How many word times of a round that is watched pass in a second; without motion, how long each order is seen; and how far the line of a round reaches inward. */
@@ -64,7 +63,7 @@ function makeWords(game, texts, focus) {
         });
         node.replaceChildren(...rows.map(({ control }) => control));
     };
-    const usersOf = (address) => game.round.map(({ account }) => account).filter(({ order }) => wordOf(order) === address).map(({ at, order }) => `${order[0]} ${texts.text("atPlace", { at })}`).join(", ");
+    const usersOf = (address) => game.round.map(({ account }) => account).filter(({ word }) => word === address).map(({ at, order }) => `${order[0]} ${texts.text("atPlace", { at })}`).join(", ");
     const show = () => {
         const { placing, picked } = game;
         for (const { address, control, users, where, saved } of rows) {
@@ -83,7 +82,7 @@ function makeRound(game, { text }) {
     const body = h("tbody");
     const signed = (more) => (more === 0 ? "" : more < 0 ? `−${-more}` : `+${more}`);
     const rowOf = ({ account, before }, most) => {
-        const word = wordOf(account.order);
+        const { word } = account;
         const bar = makeBar(account);
         bar.show(Infinity);
         const name = word === null ? account.order : `${account.order.slice(0, account.order.indexOf(" "))} ${game.nameOf(word)}`;
@@ -91,7 +90,7 @@ function makeRound(game, { text }) {
             h("td", {}, h("div", { class: "account-bar", style: `--times: ${account.sum}; --most: ${most}`, "aria-hidden": "true" }, ...bar.nodes)), h("td", { class: "number" }, String(account.sum)), h("td", { class: "number" }, signed(account.sum - before)));
     };
     /** How many rows a narrow window shows of a word: those of its orders, and of what comes after each. */
-    const rowsOf = (address) => game.round.filter((unused, place) => [place, place - 1].some((at) => wordOf(game.round[at]?.account.order ?? "") === address)).length;
+    const rowsOf = (address) => game.round.filter((unused, place) => [place, place - 1].some((at) => game.round[at]?.account.word === address)).length;
     const show = () => {
         const { round, program: { words } } = game;
         const most = Math.max(130, ...round.map(({ account, before }) => Math.max(account.sum, before)));

@@ -4,15 +4,6 @@ import { addressIn, partsOfOrder } from "../addresses.mjs";
 /** The letter of an order as it is written, or null. */
 export const letterOf = (order) => partsOfOrder(order).letter;
 
-/** The letters of the orders that use no word. */
-const WITHOUT_WORD = ["z", "i", "p", "u", "t"];
-
-/** Whether an order uses no word. */
-export const isWithoutWord = (order) => WITHOUT_WORD.includes(letterOf(order));
-
-/** The address of the word that an order uses, or null where it uses none. */
-export const wordOf = (order) => (isWithoutWord(order) ? null : addressIn(order));
-
 const isNegative = (digits) => "89fgjkqw".includes(digits[0]);
 
 /** What a test has found. Only one with a sign asks for the switch; there it has to be known where the machine went on. */
@@ -34,9 +25,9 @@ function kindOf(account) {
 }
 
 /** The name of the sentence that says how far the drum had to turn, or null. */
-function waitOf({ order, find }, kind) {
+function waitOf({ word, find }, kind) {
     if (kind === "other") return null;
-    return `waits${find === 0 ? "Register" : "Order"}${isWithoutWord(order) ? "" : "Word"}`;
+    return `waits${find === 0 ? "Register" : "Order"}${word === null ? "" : "Word"}`;
 }
 
 /** The sentences of an order by their names: what it does, and how far the drum had to turn; and what stands in their places. */

@@ -95,7 +95,7 @@ function makeWriting(laboratory, texts, state, actions, changed) {
     const commentOf = (line, rest) => [state.isFresh ? state.said?.placeOf(line) : "", rest].filter(Boolean).join(" ");
     const keys = { "Ctrl-Enter": actions.run, "Cmd-Enter": actions.run, F8: () => verdict.next(), F9: () => actions.stopAt(editor.line()), Esc: () => card.close() };
     const editor = makeEditor("source", texts, { changed, actions: keys, beside: besideOf(laboratory, state), pressed: actions.stopAt, moved: () => { if (card.isOpen()) card.light(); }, commentOf });
-    const card = makeCard(texts, editor.operation);
+    const card = makeCard(laboratory, texts, editor.operation);
     const verdict = makeVerdict(texts, () => editor);
     return { editor, card, verdict };
 }

@@ -33,6 +33,8 @@ test("the commands, and which only ask", () => {
     assert.deepEqual([...replies.commandsOf("put does address word\nwhy asks address\nload does alone\n")],
         [["put", { asks: false, takes: "address word" }], ["why", { asks: true, takes: "address" }], ["load", { asks: false, takes: "alone" }]]);
     assert.throws(() => replies.commandsOf("put ttss WORD\n"), replies.ReplyError);
+    assert.deepEqual([...replies.waitingOf('{"operation":"b","waits":"yes"}\n{"operation":"z","waits":"no"}\n')], ["b"]);
+    assert.throws(() => replies.waitingOf('{"operation":"b"}\n'), replies.ReplyError);
 });
 
 test("readings of a word", () => {

@@ -267,8 +267,16 @@ def where_the_machine_is():
     for typed in ("look", "around", "around 0003 5", "words", "show 0001", "numbers"):
         shown = terminal.type(f"{typed}\r", "> ")
         assert "?" not in shown and max(map(len, shown.split("\n"))) <= 80, shown
+    # at the end of the drum the last words are shown
+    shown = terminal.type("around 6363 2\r", "> ")
+    assert "\n  6362           00000000  z 0000\n> 6363           00000000  z 0000\n" in shown, shown
     shown = terminal.type("around x\r", "> ")
-    assert "? 1 Form: x " in shown, shown
+    assert "? 1 Form: x is not a label in the last source\n" in shown, shown
+    for typed in ("around 0003 65", "around 0003 0", "around 0003 x"):
+        shown = terminal.type(f"{typed}\r", "> ")
+        assert "? 1 Form: around ttss NUMBER, at most 64\n" in shown, shown
+    shown = terminal.type("trace x\r", "> ")
+    assert "? 1 Form: trace NUMBER\n" in shown, shown
     terminal.type(CTRL_D, "\n")
     assert terminal.status() == 0
 
