@@ -226,34 +226,6 @@ fn what_is_known_when_an_activity_begins(rt: HostRuntime) {
     expect_eq(&rt, seen, (true, (6, [true; 3])));
 }
 
-/// The act's word times of an activity that takes so many in all.
-fn acts(begun: Begun, times: u64) -> Option<u64> {
-    let whole = until(begun, times, Code::new(63))?;
-    if code_of(whole.prints) == 63 {
-        Some(whole.phases.act)
-    } else {
-        None
-    }
-}
-
-/// The same of the first order, whose waits take 66.
-fn acts_of_first<A: Allocator>(machine: &mut Machine<A>) -> [Option<u64>; 3] {
-    press(machine, Action::Start);
-    match Begun::before_acting(machine) {
-        Some(begun) => [acts(begun, 66), acts(begun, 67), acts(begun, u64::MAX)],
-        None => [None; 3],
-    }
-}
-
-#[test]
-fn all_but_the_waits_is_the_act(rt: HostRuntime) {
-    let seen = match with_words(rt.alloc(), PROGRAM) {
-        Some(mut machine) => acts_of_first(&mut machine),
-        None => [None; 3],
-    };
-    expect_eq(&rt, seen, [Some(0), Some(1), Some(u64::MAX - 66)]);
-}
-
 /// How many of the sixteen orders wait for a word, and how many store one.
 fn users() -> (usize, usize) {
     let mut waiting: usize = 0;
