@@ -24,9 +24,6 @@ module _ (known : Known) where
   pub stands-of : {T : Type 0} (now text : List ℕ) (w₀ w : Option (List ℕ)) (result : Result T StreamFault) → now ≡ text → IfErr result (λ fault. StandsOf now fault w₀ w) → IfErr result (λ fault. StandsOf text fault w₀ w)
   stands-of now text w₀ w result is stands = subst (λ (at : List ℕ). IfErr result (λ fault. StandsOf at fault w₀ w)) is stands
 
-  pub whole-of : {T : Type 0} (now text : List ℕ) (w₀ w : Option (List ℕ)) (result : Result T StreamFault) → now ≡ text → OnOk result (Appends w₀ w now) → OnOk result (Appends w₀ w text)
-  whole-of now text w₀ w result is all = subst (λ (at : List ℕ). OnOk result (Appends w₀ w at)) is all
-
   -- what is written fails, not what is read
   pub not-read : (fault : StreamFault) (failed : Bool) → HasCause fault false failed → fault ≡ Read → ⊥
   not-read Read failed cause is = absurd (cc)
@@ -59,9 +56,6 @@ module _ (known : Known) where
   granted-text : (seat : Seat) (told : Told) (text : List ℕ) → is_of_files told ≡ true → text ≡ (said_to seat told).text → text ≡ prompt_before seat told ++ (said_to seat told).text
   granted-text seat told text of is = is ∙ ap (λ (prompt : List ℕ). prompt ++ (said_to seat told).text) (sym (files-prompt seat told of))
 
-  pub serving-none : (seat : Seat) (w : Option (List ℕ)) → IsServing known seat seat w w
-  serving-none seat w = record { told = []; is_told = told-none known seat w; lines = refl; names = λ names. refl }
-
   pub serving-more : (a b c : Seat) (w₀ w₁ w₂ : Option (List ℕ)) (text : List ℕ) → IsServing known a b w₀ w₁ → IsGranted known b c (Some text) → Appends w₁ w₂ text → IsServing known a c w₀ w₂
   serving-more a b c w₀ w₁ w₂ text so_far granted written =
       let told = granted.0 in
@@ -73,11 +67,6 @@ module _ (known : Known) where
         lines = lines-append known so_far.told (told ∷ []) ∙ (ap (λ (at : List (List ℕ)). at ++ lines_in (told ∷ [])) so_far.lines ∙ files-lines told of);
         names = λ names. names-append known names names names so_far.told (told ∷ []) (so_far.names names) (files-names told of names);
       }
-
-  pub serving-done : (a b c : Seat) (w₀ w : Option (List ℕ)) → IsServing known a b w₀ w → IsGranted known b c None → IsServed known a c w₀ w
-  serving-done a b c w₀ w so_far granted =
-      let same : b ≡ c = sym granted.1 in
-      (subst (λ (at : Seat). IsServing known a at w₀ w) same so_far, subst (λ (at : Seat). needs_no_file (wish_at at) ≡ true) same granted.0)
 
   -- of no text all lines so far were typed
   none-so-far : (xs : List Told) → lines_in xs ≡ [] → IsTypedSoFar [] (Some []) xs

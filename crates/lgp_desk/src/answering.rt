@@ -71,8 +71,8 @@ fn serve<A: Allocator + Copy, P: Progress, F: Files, W: Sink>(
 ) -> Result<(), StreamFault>
     ensures served { OnOk result (IsServed (F.known files.now) desk.old desk.new
         (W.contents writer.old) (W.contents writer.new)) }
-    ensures broken { IfErr result (λ fault. IsBrokenOff (F.known files.now) desk.old [] (Some []) None
-        fault (W.contents writer.old) (W.contents writer.new)) }
+    ensures broken { IfErr result (λ fault. IsBrokenOff (F.known files.now) desk.old []
+        (Some []) None fault (W.contents writer.old) (W.contents writer.new)) }
     ensures cause { IfErr result (λ fault. HasCause fault false (W.failed writer.new)) }
 {
     for step in 0..u64::MAX {

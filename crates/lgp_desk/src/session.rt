@@ -36,7 +36,8 @@ pub fn hold_session<A: Allocator + Copy, B: Allocator, P: Progress, F: Files, R:
     output: &mut W,
 ) -> u8
     ensures { IsHeld (F.known files.now) manner names.now (R.remaining input.old)
-        (R.remaining input.new) (record { read = R.failed input.new; write = W.failed output.new }) result
+        (R.remaining input.new)
+        (record { read = R.failed input.new; write = W.failed output.new }) result
         (W.contents output.old) (W.contents output.new) }
 {
     session_status(attend(alloc, manner, names, files, progress, input, output))
@@ -65,8 +66,10 @@ fn hold_task<A: Allocator + Copy, P: Progress, F: Files, R: Feed, W: Sink>(
     input: &mut R,
     output: &mut W,
 ) -> u8
-    ensures { IsHeld (F.known files.now) (session_manner manner task.now) task.now.files (R.remaining input.old)
-        (R.remaining input.new) (record { read = R.failed input.new; write = W.failed output.new }) result
+    ensures { IsHeld (F.known files.now) (session_manner manner task.now) task.now.files
+        (R.remaining input.old)
+        (R.remaining input.new)
+        (record { read = R.failed input.new; write = W.failed output.new }) result
         (W.contents output.old) (W.contents output.new) }
 {
     hold_session(
