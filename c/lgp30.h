@@ -63,6 +63,25 @@ uint32_t lgp_run_script(const uint8_t *script, size_t script_length,
                         uint8_t *room, size_t room_length,
                         struct lgp_outcome *outcome);
 
+/* What is wanted of a source. */
+enum lgp_wanted {
+    LGP_LISTING = 0, /* its listing */
+    LGP_TAPE = 1,    /* the text of the paper tape that loads it, and a line feed */
+    LGP_RUN = 2      /* what it prints, and the panel, when it has run in a new machine until it stops or has
+                        performed `limit` orders more than the loader */
+};
+
+/* Assembles a source, and gives what is wanted of it by its number; of another number the text is empty.
+ * The limit counts for LGP_RUN alone.
+ *
+ * LGP_QUESTIONS says that the source has faults, which are given instead, one in each line, or that the run
+ * meets the clock's end, which is given as a refusal; outcome->questions is 1 then. Everything else is as
+ * with lgp_run_script. */
+uint32_t lgp_source(uint32_t wanted, uint64_t limit,
+                    const uint8_t *source, size_t source_length,
+                    uint8_t *room, size_t room_length,
+                    struct lgp_outcome *outcome);
+
 /* A session: a laboratory that answers one line after another, over memory from malloc.
  *
  * It takes the lines of the monitor, which are those of scripts and some more (docs/USING.md), each
@@ -108,6 +127,80 @@ uint32_t lgp_close(struct lgp_session *session,
                    uint8_t *room, size_t room_length,
                    struct lgp_outcome *outcome);
 
+/* ---- A session as a desk
+ *
+ * The program of the monitor is a desk: lines are typed there, some of them name files, and it writes
+ * replies, prompts and notes (docs/USING.md). A session is a desk without input and output. It wishes for
+ * one thing at a time; its caller does that, tells what came of it, and writes the text that the call
+ * gives. Telling it what it did not wish for changes nothing and gives an empty text.
+ *
+ * The calls above may come in between: they ask the monitor alone, and the desk's files stay as they are.
+ */
+
+/* What a desk wishes for. */
+enum lgp_wish {
+    LGP_WISHES_LINE = 0,   /* LGP_TYPED or LGP_FIRST, or lgp_leave */
+    LGP_WISHES_ONWARD = 1, /* LGP_ONWARD */
+    LGP_WISHES_FILE = 2,   /* LGP_FOUND, or why the file of LGP_NAME is refused */
+    LGP_WISHES_KEPT = 3,   /* LGP_KEPT, after the text of LGP_MADE is in the file of LGP_NAME; or LGP_NOT_KEPT */
+    LGP_WISHES_NOTHING = 4 /* nothing more: `quit` was typed */
+};
+
+/* What a desk is told, with the bytes that belong to it, where there are any. */
+enum lgp_told {
+    LGP_TYPED = 0,      /* a line that is typed, without its line feed */
+    LGP_FIRST = 1,      /* the name of a file whose lines come before those that are typed */
+    LGP_ONWARD = 2,     /* to go on with the lines of a file */
+    LGP_FOUND = 3,      /* the bytes of the file */
+    LGP_NOT_OPENED = 4, /* the file cannot be opened, */
+    LGP_NOT_READ = 5,   /* or not be read, */
+    LGP_TOO_LONG = 6,   /* or has more bytes than its reader takes, */
+    LGP_NOT_NAMED = 7,  /* or its name is no text */
+    LGP_KEPT = 8,       /* the text is in the file, */
+    LGP_NOT_KEPT = 9    /* or could not be written there */
+};
+
+/* What a desk shows. */
+enum lgp_shown {
+    LGP_PROMPT = 0, /* the prompt in front of the next line; empty unless LGP_PROMPTING is set */
+    LGP_NAME = 1,   /* the name of the file that it wishes for */
+    LGP_MADE = 2    /* the text that is to be kept there */
+};
+
+/* How the replies of a desk are written: LGP_BARE after lgp_open. */
+enum lgp_manner {
+    LGP_BARE = 0,      /* the replies alone */
+    LGP_PROMPTING = 1, /* with prompts */
+    LGP_ECHOING = 2,   /* each line above its reply */
+    LGP_JSON = 3       /* an object of JSON for each line */
+};
+
+/* Tells a desk something by its number, and gives the text that is to be written. Everything else is as
+ * with lgp_answer; a number that is none of these changes nothing. */
+uint32_t lgp_tell(struct lgp_session *session, uint32_t told,
+                  const uint8_t *text, size_t text_length,
+                  uint8_t *room, size_t room_length,
+                  struct lgp_outcome *outcome);
+
+/* Gives what a desk shows by its number; of another number the text is empty. Everything else is as with
+ * lgp_answer. */
+uint32_t lgp_show(struct lgp_session *session, uint32_t shown,
+                  uint8_t *room, size_t room_length,
+                  struct lgp_outcome *outcome);
+
+/* What a desk wishes for, as enum lgp_wish; LGP_NOT_OPEN if no session is open there. */
+uint32_t lgp_wish(struct lgp_session *session);
+
+/* Sets how the replies of a desk are written; a number that is none of enum lgp_manner changes nothing.
+ * LGP_WELL; LGP_NOT_OPEN. */
+uint32_t lgp_manner(struct lgp_session *session, uint32_t manner);
+
+/* Tells a desk that no line is typed any more, and closes the session as lgp_close does, with the text
+ * that is to be written then. */
+uint32_t lgp_leave(struct lgp_session *session,
+                   uint8_t *room, size_t room_length,
+                   struct lgp_outcome *outcome);
+
 /* ---- The laboratory for programs without malloc
  *
  * The same calls in memory that the caller gives up for good. The conditions above apply here too, except
@@ -129,6 +222,10 @@ uint32_t lgp_run_script_in(struct lgp_memory memory,
                            const uint8_t *script, size_t script_length,
                            uint8_t *room, size_t room_length,
                            struct lgp_outcome *outcome);
+uint32_t lgp_source_in(struct lgp_memory memory, uint32_t wanted, uint64_t limit,
+                       const uint8_t *source, size_t source_length,
+                       uint8_t *room, size_t room_length,
+                       struct lgp_outcome *outcome);
 
 /* A session in memory that is given up: the calls above, with the same statuses and promises. Use a struct
  * lgp_session of its own for them. All its bytes are zero while no session is open. */
@@ -156,6 +253,20 @@ uint32_t lgp_reply_in(struct lgp_session *session,
 
 /* Closes a session as lgp_close does, with the reply to an open source. Its memory is not returned. */
 uint32_t lgp_close_in(struct lgp_session *session,
+                      uint8_t *room, size_t room_length,
+                      struct lgp_outcome *outcome);
+
+/* The calls of a desk, as above. */
+uint32_t lgp_tell_in(struct lgp_session *session, uint32_t told,
+                     const uint8_t *text, size_t text_length,
+                     uint8_t *room, size_t room_length,
+                     struct lgp_outcome *outcome);
+uint32_t lgp_show_in(struct lgp_session *session, uint32_t shown,
+                     uint8_t *room, size_t room_length,
+                     struct lgp_outcome *outcome);
+uint32_t lgp_wish_in(struct lgp_session *session);
+uint32_t lgp_manner_in(struct lgp_session *session, uint32_t manner);
+uint32_t lgp_leave_in(struct lgp_session *session,
                       uint8_t *room, size_t room_length,
                       struct lgp_outcome *outcome);
 

@@ -6,7 +6,8 @@
 
 #include <stdio.h>
 
-static const struct calls over_malloc = {lgp_open, lgp_answer, lgp_reply, lgp_close};
+static const struct calls over_malloc = {
+    lgp_source, lgp_open, lgp_answer, lgp_reply, lgp_close, lgp_tell, lgp_show, lgp_wish, lgp_manner, lgp_leave};
 
 static void memory(void)
 {
@@ -29,6 +30,8 @@ int main(void)
 {
     try_lines(&over_malloc);
     try_long_lines(&over_malloc);
+    try_sources(&over_malloc);
+    try_desk(&over_malloc);
     memory();
     return failures() == 0 ? 0 : 1;
 }

@@ -42,7 +42,15 @@ static uint32_t open_in_part(struct lgp_session *session)
     return lgp_open_in(next_part(), session);
 }
 
-static const struct calls in_region = {open_in_part, lgp_answer_in, lgp_reply_in, lgp_close_in};
+static uint32_t source_in_part(uint32_t wanted, uint64_t limit, const uint8_t *source, size_t source_length,
+                               uint8_t *room, size_t room_length, struct lgp_outcome *outcome)
+{
+    return lgp_source_in(next_part(), wanted, limit, source, source_length, room, room_length, outcome);
+}
+
+static const struct calls in_region = {
+    source_in_part, open_in_part, lgp_answer_in, lgp_reply_in, lgp_close_in,
+    lgp_tell_in, lgp_show_in, lgp_wish_in, lgp_manner_in, lgp_leave_in};
 
 /* How many lines are answered in so many bytes. */
 static size_t answered_in(size_t size)
@@ -180,6 +188,8 @@ int main(int words, char **word)
     size_of_next = 1 << 20;
     try_lines(&in_region);
     try_long_lines(&in_region);
+    try_sources(&in_region);
+    try_desk(&in_region);
     closed_by_memory();
     sizes();
     many_lines();

@@ -182,6 +182,92 @@ void try_long_lines(const struct calls *calls)
     end(calls, &session, 32);
 }
 
+static struct told wanted_of(const struct calls *calls, uint32_t wanted, const char *source)
+{
+    struct told told = untold;
+    told.status = calls->source(wanted, 5, (const uint8_t *)source, strlen(source), (uint8_t *)told.room, 32,
+                                &told.outcome);
+    return told;
+}
+
+void try_sources(const struct calls *calls)
+{
+    expect(is_reply(wanted_of(calls, LGP_LISTING, " end"), LGP_WELL, "               end\n"), "a source is listed");
+    struct told tape = wanted_of(calls, LGP_TAPE, " z\n end 0000\n");
+    expect(begins(tape, LGP_WELL, "000k0000'wwwwwwwj'00000000'") && tape.outcome.length > 32, "its tape is given");
+    expect(begins(wanted_of(calls, LGP_RUN, " z\n end 0000\n"), LGP_WELL, "printed 0\ncounter 0001 "), "it is run");
+    for (uint32_t wanted = LGP_LISTING; wanted <= LGP_RUN; wanted++) {
+        expect(is_reply(wanted_of(calls, wanted, " b none"), LGP_QUESTIONS, "line 1 UnknownName\nline 2 NoEnd\n"),
+               "its faults are given");
+    }
+    expect(is_reply(wanted_of(calls, LGP_RUN + 1, " end"), LGP_WELL, ""), "nothing else is wanted");
+}
+
+static struct told tell(const struct calls *calls, struct lgp_session *session, uint32_t what, const char *text)
+{
+    struct told told = untold;
+    told.status = calls->tell(session, what, (const uint8_t *)text, strlen(text), (uint8_t *)told.room, 32,
+                              &told.outcome);
+    return told;
+}
+
+static struct told show(const struct calls *calls, struct lgp_session *session, uint32_t what)
+{
+    struct told told = untold;
+    told.status = calls->show(session, what, (uint8_t *)told.room, 32, &told.outcome);
+    return told;
+}
+
+static struct told leave(const struct calls *calls, struct lgp_session *session)
+{
+    struct told told = untold;
+    told.status = calls->leave(session, (uint8_t *)told.room, 32, &told.outcome);
+    return told;
+}
+
+/* That no desk is there. */
+static int is_no_desk(const struct calls *calls, struct lgp_session *session)
+{
+    return is_untold(tell(calls, session, LGP_TYPED, "panel"), LGP_NOT_OPEN)
+        && is_untold(show(calls, session, LGP_PROMPT), LGP_NOT_OPEN)
+        && is_untold(leave(calls, session), LGP_NOT_OPEN)
+        && calls->wish(session) == LGP_NOT_OPEN && calls->manner(session, LGP_JSON) == LGP_NOT_OPEN;
+}
+
+/* That a desk that is told this says that, and then wishes for something. */
+static int says(const struct calls *calls, struct lgp_session *session, uint32_t what, const char *text,
+                const char *said, uint32_t wish)
+{
+    return is_reply(tell(calls, session, what, text), LGP_WELL, said) && calls->wish(session) == wish;
+}
+
+void try_desk(const struct calls *calls)
+{
+    struct lgp_session session = {0};
+    expect(is_no_desk(calls, &session), "no desk is there before a session is open");
+    calls->open(&session);
+    expect(calls->wish(&session) == LGP_WISHES_LINE, "a desk wishes for a line");
+    expect(says(calls, &session, LGP_TYPED, "put 0050 = 3", "ok\n", LGP_WISHES_LINE), "and says its reply");
+    expect(says(calls, &session, LGP_KEPT, "", "", LGP_WISHES_LINE), "what it does not wish for changes nothing");
+    expect(says(calls, &session, LGP_NOT_KEPT + 1, "panel", "", LGP_WISHES_LINE), "nor does another number");
+    expect(says(calls, &session, LGP_TYPED, "save drum", "", LGP_WISHES_KEPT), "a line may name a file");
+    expect(is_reply(show(calls, &session, LGP_NAME), LGP_WELL, "drum"), "whose name it shows,");
+    expect(is_reply(show(calls, &session, LGP_MADE), LGP_WELL, "0050 00000006\n"), "and what is to be kept there");
+    expect(says(calls, &session, LGP_KEPT, "", "saved drum\n", LGP_WISHES_LINE), "it is told that this was done");
+    expect(says(calls, &session, LGP_TYPED, "do lines", "", LGP_WISHES_FILE), "it wishes for a file");
+    expect(says(calls, &session, LGP_FOUND, "words 0050 1\nquit", "", LGP_WISHES_ONWARD), "and for its lines");
+    expect(says(calls, &session, LGP_ONWARD, "", "0050 00000006\n", LGP_WISHES_ONWARD), "one after another");
+    expect(is_reply(ask(calls, &session, "go", 32), LGP_QUESTIONS, "? 1 Form: go ttss\n"), "the monitor is asked in between");
+    expect(is_reply(show(calls, &session, LGP_PROMPT), LGP_WELL, ""), "no prompt is shown");
+    expect(calls->manner(&session, LGP_PROMPTING) == LGP_WELL, "unless that is set");
+    expect(is_reply(show(calls, &session, LGP_PROMPT), LGP_WELL, "0000 halted operator> "), "and then it is");
+    expect(calls->manner(&session, LGP_JSON + 1) == LGP_WELL
+               && is_reply(show(calls, &session, LGP_NAME + 9), LGP_WELL, ""), "another number changes and shows nothing");
+    expect(says(calls, &session, LGP_ONWARD, "", "", LGP_WISHES_NOTHING), "after quit it wishes for nothing");
+    expect(is_reply(leave(calls, &session), LGP_WELL, ""), "and is left");
+    expect(is_no_desk(calls, &session), "which closes the session");
+}
+
 size_t work(const struct calls *calls, struct lgp_session *session, uint32_t *status)
 {
     /* lines, and the front of the reply to each */

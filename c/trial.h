@@ -18,14 +18,24 @@ void refuse_growth(size_t number);
 /* Refuses no more growths, and whether one was refused since refuse_growth. */
 int grown_freely(void);
 
-/* The calls of a session, over one kind of memory. */
+/* The calls over one kind of memory: for a source, and of a session. */
 struct calls {
+    uint32_t (*source)(uint32_t wanted, uint64_t limit, const uint8_t *source, size_t source_length,
+                       uint8_t *room, size_t room_length, struct lgp_outcome *outcome);
     uint32_t (*open)(struct lgp_session *session);
     uint32_t (*answer)(struct lgp_session *session, const uint8_t *line, size_t line_length,
                        uint8_t *room, size_t room_length, struct lgp_outcome *outcome);
     uint32_t (*reply)(struct lgp_session *session,
                       uint8_t *room, size_t room_length, struct lgp_outcome *outcome);
     uint32_t (*close)(struct lgp_session *session,
+                      uint8_t *room, size_t room_length, struct lgp_outcome *outcome);
+    uint32_t (*tell)(struct lgp_session *session, uint32_t told, const uint8_t *text, size_t text_length,
+                     uint8_t *room, size_t room_length, struct lgp_outcome *outcome);
+    uint32_t (*show)(struct lgp_session *session, uint32_t shown,
+                     uint8_t *room, size_t room_length, struct lgp_outcome *outcome);
+    uint32_t (*wish)(struct lgp_session *session);
+    uint32_t (*manner)(struct lgp_session *session, uint32_t manner);
+    uint32_t (*leave)(struct lgp_session *session,
                       uint8_t *room, size_t room_length, struct lgp_outcome *outcome);
 };
 
@@ -54,6 +64,12 @@ void try_lines(const struct calls *calls);
 
 /* Tries lines of more than 4096 bytes, in a source and outside, and a line of any bytes. */
 void try_long_lines(const struct calls *calls);
+
+/* Tries what is wanted of sources. */
+void try_sources(const struct calls *calls);
+
+/* Tries a session as a desk: what it is told, wishes for and shows, and what is told of one that is not open. */
+void try_desk(const struct calls *calls);
 
 /* Opens a session and asks it fifteen lines, up to one for which there is no memory. How many were
  * answered, none if the session was not opened; the status is the last one. The session is open

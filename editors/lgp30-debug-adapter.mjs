@@ -4,16 +4,11 @@ import { readFile } from "node:fs/promises";
 import { join, resolve } from "node:path";
 import { DebugAdapter } from "./debug/adapter.mjs";
 import { serve } from "./serve.mjs";
-import { MonitorSession } from "../page/module/monitor_session.mjs";
 import { ModuleEngine } from "../page/module/engines.mjs";
 import { Shelf, stateFolder } from "../page/module/shelf.mjs";
-import { Typist } from "../page/module/typist.mjs";
 
 /** What types the lines of the console, which may name files. */
-function consoleOver(recorded, openBeside) {
-    const monitor = new MonitorSession(recorded, openBeside);
-    return new ModuleEngine(recorded, monitor, (say) => new Typist(monitor, openBeside, say));
-}
+const consoleOver = (session, openSession) => new ModuleEngine(session, openSession);
 
 // what was done is kept apart from what was typed at a terminal, since a debugger is started often
 serve("lgp30-debug-adapter", "answers the Debug Adapter Protocol for programs of the LGP-30", (openSession, send, exit) => (

@@ -5,9 +5,6 @@
 # The status of a launcher that could not run the program, or whose run was cut off.
 UNABLE=70
 
-# The status of the module's program for a command line that it hands back.
-HANDED_BACK=75
-
 say() {
     echo "$caller: $*" >&2
 }
@@ -115,37 +112,43 @@ mark_module() {
     module_sources >"$(module_path).sources"
 }
 
-# Hands this call over to the program by the module. That takes the place of the shell, so that signals and keys reach it. Returns where the
-# module does not do what the words ask for, which node is asked before.
+# Hands this call over to the program by the module. That takes the place of the shell, so that signals and keys reach it.
 run_module() {
-    local terminal=$top/page/module/terminal.mjs status=0
-    if [ $# -gt 0 ]; then
-        ! write_recorded "$@" || exit 0
-        node "$terminal" --takes "$caller" "$@" </dev/null || status=$?
-        [ "$status" -ne "$HANDED_BACK" ] || return 0
-    fi
-    exec node "$terminal" "$caller" "$@"
+    answer_recorded "$@"
+    # node takes /dev/null where input or output is closed; there reading and writing fail, as the program's do
+    { : <&0; } 2>/dev/null || exec </
+    { : >&1; } 2>/dev/null || exec >/dev/full
+    { : >&2; } 2>/dev/null || exec 2>/dev/full
+    exec node "$top/page/module/terminal.mjs" "$caller" "$@"
 }
 
-# Writes what the program writes for words that ask for its help or its version, as .ci/calls keeps it; fails for all other words.
-write_recorded() {
-    case ${!#} in --help | -h | --version | -V) ;; *) return 1 ;; esac
-    awk -v call="\$ $caller $* </dev/null" '
+# Writes what the program writes for words that ask for its help or its version, as .ci/calls keeps it, and ends; returns for all other words.
+answer_recorded() {
+    local words=$* text
+    case ${!#} in
+        --help | -h | --version | -V) ;;
+        *) [ "${1-}" = help ] || return 0; words=${2:+$2 }--help ;;
+    esac
+    text=$(awk -v call="\$ $caller $words </dev/null" '
         /^\$ / { is_it = ($0 == call); next }
         is_it && sub(/^> /, "") { print; found = 1 }
         END { exit !found }
-    ' "$top/.ci/calls.expected" 2>/dev/null
+    ' "$top/.ci/calls.expected" 2>/dev/null) || return 0
+    if ! echo "$text" 2>/dev/null; then
+        say "the output could not be written"
+        exit 2
+    fi
+    exit 0
 }
 
-# Where neither the proved program nor the module does what the words ask for: help and version are written as they are kept, and all else
-# ends in a line that says what would do it.
+# Where neither the proved program nor the module is there: help and version are written as they are kept, and all else ends in a line that
+# says what would do it.
 give_up_on() {
     local way="with the Rattle toolchain ./prove $1 makes the program, once, in half an hour"
     shift
-    [ $# -eq 0 ] || ! write_recorded "$@" || exit 0
+    answer_recorded "$@"
     has_node || give_up "the proved program of these sources is not here, nor node, 18 or later, which runs the proved module: $way"
-    has_module || give_up "neither the proved program nor the proved module here was made from these sources: $way"
-    give_up "the proved module cannot do what this command line asks for: $way"
+    give_up "neither the proved program nor the proved module here was made from these sources: $way"
 }
 
 # How a program is run: as the proved program, else by the module; `none` where neither is there. For tests CONDUGWA_RUN names one of the two.

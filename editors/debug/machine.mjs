@@ -1,7 +1,8 @@
 // The laboratory of a debugger: what it asks of the monitor, and what an operator does at the console for it. What is known of the machine is in the replies.
 import { bytesFrom, textFrom, wordsOf } from "../../page/module/lines.mjs";
-import { Recorded } from "../../page/module/recorded.mjs";
 import * as replies from "../../page/module/replies.mjs";
+import { TextSession } from "../../page/module/text_session.mjs";
+import { Recorded } from "./recorded.mjs";
 
 /** What could not be done, as a client shows it. */
 export class Refused extends Error {}
@@ -21,6 +22,7 @@ export const valueOf = (record) => ["digits", "order", "number", "fraction"].fla
 
 export class Machine {
     #openSession;
+    #session;
     #recorded;
     #console;
     #beside = null;
@@ -31,8 +33,9 @@ export class Machine {
     /** A laboratory in a session, with what types lines that may name files: where there is none, the session types them. */
     constructor(openSession, consoleOver = null) {
         this.#openSession = openSession;
-        this.#recorded = new Recorded(openSession());
-        this.#console = consoleOver?.(this.#recorded, () => new Recorded(openSession())) ?? null;
+        this.#session = openSession();
+        this.#recorded = new Recorded(this.#session);
+        this.#console = consoleOver?.(this.#session, openSession) ?? null;
     }
 
     /** The reply to a line that does something. */
@@ -69,7 +72,14 @@ export class Machine {
     /** What a console line is answered, a refusal too. */
     async types(line) {
         if (!this.isQuestion(line)) this.#orders = 0;
-        return shown(this.#console === null ? this.#recorded.answer(typed(line)) : await this.#console.type(typed(line)));
+        const isAnsweredHere = this.#console === null || Recorded.isConcerned(line);
+        return shown(isAnsweredHere ? this.#recorded.answer(typed(line)) : await this.#console.type(typed(line)));
+    }
+
+    /** Puts the tape of a file into the reader, as the monitor does with `tape FILE`. */
+    mount(path, bytes) {
+        this.#orders = 0;
+        for (const [what, told] of [["typed", bytesFrom(typed(`tape ${path}`))], ["found", bytes]]) granted(shown(textFrom(this.#session.tell(what, told).reply)));
     }
 
     /** What the lines of a source are answered, each with a sign for each of its bytes. */
@@ -190,7 +200,7 @@ export class Machine {
 
     /** The digits of what `put` takes as a word. A laboratory beside this one works them out. */
     digitsOf(value) {
-        this.#beside ??= new Recorded(this.#openSession());
+        this.#beside ??= new TextSession(this.#openSession());
         granted(shown(this.#beside.answer(typed(`put 0000 ${value}`))));
         return replies.placesOf(this.#beside.answer("words 0000 1"))[0].text;
     }

@@ -1,6 +1,5 @@
 // A program as it is brought into the machine: assembled, loaded or put, with its tape and its switches.
 import { linesIn, textFrom } from "../../page/module/lines.mjs";
-import { LONG_TAPE, MOUNT_LIMIT } from "../../page/module/monitor_session.mjs";
 import { SWITCHES, isRefusal, linesOf, sourceOf } from "../../page/module/replies.mjs";
 import { Source, typedSource } from "../../page/module/source.mjs";
 import { Refused } from "./machine.mjs";
@@ -22,20 +21,13 @@ function checked(launch) {
     return launch;
 }
 
-/** The text of a file, a sign for each byte. */
-async function textOf(readFile, path) {
+/** The bytes of a file. */
+async function bytesOf(readFile, path) {
     try {
-        return textFrom(await readFile(path));
+        return await readFile(path);
     } catch (failure) {
         throw new Refused(`${path}: ${failure.message}`);
     }
-}
-
-/** The lines of a tape file as one line takes them. */
-function tapeIn(text, path) {
-    const tape = text.replace(/[\r\n]/g, "");
-    if (tape.length > MOUNT_LIMIT) throw new Refused(`${path}: ${LONG_TAPE}`);
-    return tape;
 }
 
 export class Program {
@@ -47,13 +39,13 @@ export class Program {
     static async broughtInto(machine, launch, { readFile, resolve = (path) => path }) {
         const { program: named, how = "load", tape, switches = {} } = checked(launch);
         const path = resolve(named);
-        const text = await textOf(readFile, path);
-        const passing = tape === undefined ? null : tapeIn(await textOf(readFile, tape), tape);
+        const text = textFrom(await bytesOf(readFile, path));
+        const passing = tape === undefined ? null : await bytesOf(readFile, tape);
         const program = new Program();
         const start = program.#assemble(machine, path, text);
         if (how === "load") machine.does("load");
         else program.#put(machine, start);
-        if (passing !== null) machine.atRest(() => machine.does(`mount ${passing}`));
+        if (passing !== null) machine.atRest(() => machine.mount(tape, passing));
         for (const [name, position] of Object.entries(switches)) machine.does(`press ${name} ${position}`);
         return program;
     }

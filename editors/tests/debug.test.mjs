@@ -324,7 +324,7 @@ test("what is wrong is said, and the adapter goes on", async () => {
     assert.match(await client.refused("attach"), /launch opens one/);
     for (const [launch, why] of [[{}, /^launch: program is to be the path of a source$/], [{ program: "/gone" }, /^\/gone: it cannot be opened$/], [{ program: "/faulty" }, /^\/faulty: \? 9 Faults\nline 1 UnknownName\n +b none\n/],
         [{ program: "/sum", how: "fly" }, /how is to be load or put/], [{ program: "/sum", switches: { bp3: "up" } }, /switches is to be bp32, bp16, bp8, bp4, transfer, sixbit, each up or down/], [{ program: "/sum", tape: "/gone" }, /^\/gone: /],
-        [{ program: "/sum", tape: "/bad" }, /^\? 12 BadSign/]]) assert.match(await client.refused("launch", launch), why);
+        [{ program: "/sum", tape: "/bad" }, /^\? 13 File \/bad: the byte at place 2, /]]) assert.match(await client.refused("launch", launch), why);
     for (const message of [null, 3, {}, { type: "request" }, { type: "request", seq: 1, command: 5 }]) client.take(message);
     await client.asks("launch", { program: "/sum", noDebug: true });
     assert.equal(client.output("important").match(/a message is no request/g).length, 5);

@@ -2,59 +2,63 @@
 import { spawn } from "node:child_process";
 import { once } from "node:events";
 import { createInterface } from "node:readline";
-import { escapedOf } from "./json.mjs";
-import { bytesFrom, wordsOf } from "./lines.mjs";
+import { Desk } from "./desk.mjs";
+import { bytesFrom, escapedOf, textFrom, wordsOf } from "./lines.mjs";
+import { TextSession } from "./text_session.mjs";
 
 const INDENT = "        ";
 /** A question whose reply tells that the objects for a line have come: nobody else writes it with these spaces. */
 const ASKED = "  panel-data   ";
 
-/** A session of the module, with a monitor session and a typist over it. */
-export class ModuleEngine {
-    #recorded;
-    #monitor;
-    #typist;
-    #openRecorded;
-    #said = "";
+/** A session of the module, and its desk. */
+export class ModuleEngine extends TextSession {
+    #desk;
+    #openBeside;
+    #said = [];
 
-    /** `typistOver` makes a typist that says what is written, and `openRecorded` opens another session. */
-    constructor(recorded, monitor, typistOver, openRecorded) {
-        this.#recorded = recorded;
-        this.#monitor = monitor;
-        this.#openRecorded = openRecorded;
-        this.#typist = typistOver((text) => (this.#said += text));
+    /** `openBeside` opens another session, in which lines can be tried. */
+    constructor(session, openBeside) {
+        super(session);
+        this.#openBeside = openBeside;
+        this.#desk = new Desk(session, (bytes) => this.#said.push(bytes), "prompting");
     }
 
-    /** What is written for a line; the note says where the line comes from. */
-    async type(line, note = "") {
-        this.#typist.typeFrom(line, note);
-        const said = this.#said;
-        this.#said = "";
+    /** What is written for the files that are typed first. */
+    async begin(names) {
+        this.#desk.typeFirst(names);
+        return this.#taken();
+    }
+
+    /** What is written for a line. */
+    async type(line) {
+        this.#desk.typeLine(line);
+        return this.#taken();
+    }
+
+    #taken() {
+        const said = textFrom(Buffer.concat(this.#said));
+        this.#said = [];
         return said;
     }
 
     /** The reply to a line that only asks. */
     async ask(line) {
-        return this.#recorded.answer(line);
-    }
-
-    /** Whether the last line has left a source open. */
-    get isSourceOpen() {
-        return this.#recorded.isSourceOpen;
+        return this.answer(line);
     }
 
     get hasLeft() {
-        return this.#monitor.hasLeft;
+        return this.#desk.hasLeft;
     }
 
     /** Another laboratory, in which lines can be tried. */
     openBeside() {
-        const recorded = this.#openRecorded();
-        return { type: async (line) => recorded.answer(line), close: async () => {} };
+        const beside = new TextSession(this.#openBeside());
+        return { type: async (line) => beside.answer(line), close: async () => {} };
     }
 
     async close() {
-        return this.#monitor.close();
+        this.#desk.close();
+        return this.#taken();
     }
 }
 

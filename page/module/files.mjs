@@ -6,8 +6,13 @@ const FILE_LIMIT = 16_777_216;
 const PORTION = 65_536;
 const ENDINGS = [".new", ".new1", ".new2", ".new3"];
 
-/** Why a file is refused. */
-export class FileTrouble extends Error {}
+/** Why a file is refused, in words and as a desk is told of it. */
+export class FileTrouble extends Error {
+    constructor(what, message) {
+        super(message);
+        this.what = what;
+    }
+}
 
 const isText = (name) => {
     try {
@@ -60,17 +65,17 @@ function patiently(call) {
     }
 }
 
-/** The text of a file. */
+/** The bytes of a file. */
 export function readFile(name) {
-    if (!isText(name)) throw new FileTrouble("this is not a file name");
+    if (!isText(name)) throw new FileTrouble("notNamed");
     let descriptor;
     try {
         descriptor = openSync(bytesFrom(name), "r");
     } catch {
-        throw new FileTrouble("it cannot be opened");
+        throw new FileTrouble("notOpened");
     }
     try {
-        return textFrom(readWithin(descriptor));
+        return readWithin(descriptor);
     } finally {
         closeSync(descriptor);
     }
@@ -81,9 +86,9 @@ function readWithin(descriptor) {
     try {
         bytes = readAll(descriptor, FILE_LIMIT);
     } catch {
-        throw new FileTrouble("it cannot be read");
+        throw new FileTrouble("notRead");
     }
-    if (bytes.length > FILE_LIMIT) throw new FileTrouble(`it has more than ${FILE_LIMIT} bytes`);
+    if (bytes.length > FILE_LIMIT) throw new FileTrouble("tooLong");
     return bytes;
 }
 
@@ -97,16 +102,16 @@ function fileBeside(name) {
             if (failure.code !== "EEXIST") throw failure;
         }
     }
-    throw new FileTrouble();
+    throw new Error("there is no name for a new file");
 }
 
-/** Keeps a text in the file of a name. What was there stays where this fails. */
-export function keepFile(name, text) {
+/** Keeps bytes in the file of a name. What was there stays where this fails. */
+export function keepFile(name, bytes) {
     try {
-        if (!isText(name)) throw new FileTrouble();
+        if (!isText(name)) throw new Error("this is not a file name");
         const { beside, descriptor } = fileBeside(name);
         try {
-            writeAll(descriptor, bytesFrom(text));
+            writeAll(descriptor, bytes);
             renameSync(beside, bytesFrom(name));
         } catch (failure) {
             unlinkSync(beside);
@@ -115,6 +120,6 @@ export function keepFile(name, text) {
             closeSync(descriptor);
         }
     } catch {
-        throw new FileTrouble("it cannot be written, and is unchanged");
+        throw new FileTrouble("notKept", "it cannot be written, and is unchanged");
     }
 }

@@ -2,7 +2,7 @@
 import { FileTrouble, keepFile } from "./files.mjs";
 import { Help } from "./help.mjs";
 import { END, INTERRUPT } from "./keyboard.mjs";
-import { isLonger, linesIn, textFrom, withoutReturn, wordsOf } from "./lines.mjs";
+import { bytesFrom, isLonger, linesIn, textFrom, withoutReturn, wordsOf } from "./lines.mjs";
 import { heldOf, isRefusal, liveOf, ordersOf, panelOf, refusalOf, runOf } from "./replies.mjs";
 import { meantBy } from "./shortcuts.mjs";
 import { Views, narrowTrace } from "./views.mjs";
@@ -284,7 +284,7 @@ export class Front {
     async #writeTranscript(name) {
         const transcript = await this.#engine.ask("transcript");
         try {
-            keepFile(name, transcript);
+            keepFile(name, bytesFrom(transcript));
             this.#note(`saved ${name}, lines: ${linesIn(transcript).length}`);
         } catch (trouble) {
             if (!(trouble instanceof FileTrouble)) throw trouble;

@@ -32,3 +32,6 @@ export const linesIn = (text) => (text === "" ? [] : text.replace(/\n$/, "").spl
 
 /** Whether a text has this line, a carriage return at its end aside. */
 export const hasLine = (text, wanted) => text.split("\n").some((line) => withoutReturn(line) === wanted);
+
+/** A text with each byte but the printed characters of ASCII by its number, as the proved program writes strings of JSON. */
+export const escapedOf = (text) => text.replace(/["\\]|[^ -~]/g, (sign) => (/["\\]/.test(sign) ? `\\${sign}` : `\\u00${sign.charCodeAt(0).toString(16).padStart(2, "0")}`));

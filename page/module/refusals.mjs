@@ -5,9 +5,9 @@ import { readFileSync } from "node:fs";
 import { fileURLToPath } from "node:url";
 import { writeAll } from "./files.mjs";
 import { bytesFrom, linesIn, textFrom, withoutReturn, wordsOf } from "./lines.mjs";
-import { Recorded } from "./recorded.mjs";
 import { isRefusal } from "./replies.mjs";
 import { Session, answerScript, compiled } from "./session.mjs";
+import { TextSession } from "./text_session.mjs";
 
 const INDENT = "    ";
 const isFault = (line) => line.startsWith("line ");
@@ -23,7 +23,7 @@ function faultsIn(reply, opened, lines) {
     return faults;
 }
 
-const openRecorded = (module) => new Recorded(new Session(module, 2 ** 28));
+const openSession = (module) => new TextSession(new Session(module, 2 ** 28));
 
 /** The replies of a script, taken one after another. */
 class Replies {
@@ -65,7 +65,7 @@ class Passage {
         this.#module = module;
         this.#lines = lines;
         this.#replies = new Replies(textFrom(answerScript(module, bytesFrom(script), 2 ** 28).replies));
-        this.#monitor = openRecorded(module);
+        this.#monitor = openSession(module);
     }
 
     /** What is refused: the number of each line, the line, and the lines of the reason. */
@@ -102,7 +102,7 @@ class Passage {
 
     /** The monitor as it was before the last line. */
     #begin() {
-        this.#monitor = openRecorded(this.#module);
+        this.#monitor = openSession(this.#module);
         for (const line of this.#accepted) this.#monitor.answer(line);
     }
 }

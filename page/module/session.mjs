@@ -13,7 +13,14 @@ const LAST_ROOM = 2 ** 25;
 const WELL = 0;
 const QUESTIONS = 1;
 const MEMORY = "there is not enough memory";
-const FUNCTIONS = ["lgp_open_in", "lgp_answer_in", "lgp_reply_in", "lgp_close_in", "lgp_run_script_in"];
+const FUNCTIONS = ["lgp_open_in", "lgp_answer_in", "lgp_reply_in", "lgp_close_in", "lgp_run_script_in", "lgp_source_in", "lgp_tell_in", "lgp_show_in", "lgp_wish_in", "lgp_manner_in", "lgp_leave_in"];
+// by their places: the numbers of c/lgp30.h
+const TOLD = ["typed", "first", "onward", "found", "notOpened", "notRead", "tooLong", "notNamed", "kept", "notKept"];
+const SHOWN = ["prompt", "name", "made"];
+const WISHES = ["line", "onward", "file", "kept", "nothing"];
+const WANTED = ["asm", "tape", "run"];
+const MANNERS = ["bare", "prompting", "echo", "json"];
+const NONE = new Uint8Array();
 
 /** How many bytes a session has, where nothing else is said. */
 export const REGION = 2 ** 26;
@@ -55,8 +62,10 @@ function checked(module) {
 class Instance {
     #exports;
     #room;
+    #textLength;
 
     constructor(module, textLength, region, room = FIRST_ROOM) {
+        this.#textLength = textLength;
         const code = compiled(module);
         this.#exports = new WebAssembly.Instance(code, {}).exports;
         this.session = aligned(Number(this.#exports.__heap_base.value));
@@ -73,9 +82,9 @@ class Instance {
         return new BigUint64Array(this.#exports.memory.buffer, address, 2);
     }
 
-    /** Calls a function of the module; numbers are addresses and lengths. */
+    /** Calls a function of the module; numbers are addresses and lengths, and one in a list is a number of 32 bits. */
     call(name, ...numbers) {
-        return this.#exports[name](...numbers.map((number) => BigInt(number)));
+        return this.#exports[name](...numbers.map((number) => (Array.isArray(number) ? number[0] : BigInt(number))));
     }
 
     /** Calls one that writes a reply, and gives its status. */
@@ -83,10 +92,12 @@ class Instance {
         return this.call(name, ...numbers, this.room, this.#room, this.outcome);
     }
 
-    /** Writes a text where the module reads it, and gives its place and length. */
+    /** Writes a text where the module reads it, and gives its place and length. A text for which that place is too small stands after the room for replies. */
     write(text) {
-        new Uint8Array(this.#exports.memory.buffer, this.text, text.length).set(text);
-        return [this.text, text.length];
+        const place = text.length <= this.#textLength ? this.text : this.room + this.#room;
+        this.#reach(place + text.length);
+        new Uint8Array(this.#exports.memory.buffer, place, text.length).set(text);
+        return [place, text.length];
     }
 
     /** How many replies of the last call begin with a question mark, and how many bytes all have. */
@@ -109,15 +120,20 @@ class Instance {
 
     /** Makes a room of so many bytes. */
     #grow(room) {
+        this.#reach(this.room + room);
+        this.#room = room;
+    }
+
+    /** Makes the memory reach up to an address. */
+    #reach(end) {
         const { memory } = this.#exports;
-        const missing = this.room + room - memory.buffer.byteLength;
+        const missing = end - memory.buffer.byteLength;
         try {
             if (missing > 0) memory.grow(Math.ceil(missing / PAGE));
         } catch (refusal) {
             if (refusal instanceof RangeError) throw new NoMemory(`${MEMORY}: ${refusal.message}`);
             throw refusal;
         }
-        this.#room = room;
     }
 
     /** Makes room for the longest reply to an end. */
@@ -138,11 +154,35 @@ export class Session {
 
     /** Answers a line, in bytes without a line feed: the bytes of its reply, and whether a refusal is among them. Throws NoMemory. */
     bytesFor(line) {
-        const place = this.#instance.write(line.subarray(0, LINE));
-        const status = this.#instance.asks("lgp_answer_in", this.#instance.session, ...place);
+        return this.#given("lgp_answer_in", ...this.#instance.write(line.subarray(0, LINE)));
+    }
+
+    /** The reply of a call that may have to be given once more. */
+    #given(name, ...numbers) {
+        const status = this.#instance.asks(name, this.#instance.session, ...numbers);
         if (status > QUESTIONS) throw new NoMemory(`${MEMORY} for this line`);
         if (this.#instance.isCut()) this.#instance.asks("lgp_reply_in", this.#instance.session);
         return { reply: this.#instance.reply, isRefused: status === QUESTIONS };
+    }
+
+    /** Tells its desk something, with the bytes that belong to it: the bytes that are to be written, and whether they are a refusal. Throws NoMemory. */
+    tell(what, bytes = NONE) {
+        return this.#given("lgp_tell_in", [TOLD.indexOf(what)], ...this.#instance.write(bytes));
+    }
+
+    /** What its desk shows: the bytes of the prompt, of the name of a file, or of what is to be kept there. Throws NoMemory. */
+    show(what) {
+        return this.#given("lgp_show_in", [SHOWN.indexOf(what)]).reply;
+    }
+
+    /** What its desk wishes for. */
+    get wish() {
+        return WISHES[this.#instance.call("lgp_wish_in", this.#instance.session)];
+    }
+
+    /** Sets how its desk writes replies. */
+    setManner(manner) {
+        this.#instance.call("lgp_manner_in", this.#instance.session, [MANNERS.indexOf(manner)]);
     }
 
     /** Answers a line: its reply, with a line feed after each of its lines. */
@@ -152,22 +192,41 @@ export class Session {
 
     /** Ends the session: the same of the reply to a source that was open; otherwise that is empty. */
     close() {
+        return this.#ended("lgp_close_in");
+    }
+
+    /** Ends the session of a desk: the bytes that are to be written then, and whether they are a refusal. */
+    leave() {
+        return this.#ended("lgp_leave_in");
+    }
+
+    #ended(name) {
         this.#instance.widen();
-        const status = this.#instance.asks("lgp_close_in", this.#instance.session);
+        const status = this.#instance.asks(name, this.#instance.session);
         if (status > QUESTIONS || this.#instance.isCut()) throw new NoMemory(`${MEMORY} for the end`);
         return { reply: this.#instance.reply, isRefused: status === QUESTIONS };
     }
 }
 
-/** Answers a whole script, in bytes, from a machine in its opening state: the bytes of the replies, and how many begin with a question mark. */
-export function answerScript(module, script, region = REGION) {
+/** Calls a function over a whole text, once more with enough room where its answer is long: the bytes of the answer, and its questions. */
+function answerText(module, text, region, call) {
     const run = (room) => {
-        const instance = new Instance(module, script.length, region, room);
-        const status = instance.asks("lgp_run_script_in", instance.handed, ...instance.write(script));
-        if (status > QUESTIONS) throw new NoMemory(`${MEMORY} for this script`);
+        const instance = new Instance(module, text.length, region, room);
+        const status = call(instance, ...instance.write(text));
+        if (status > QUESTIONS) throw new NoMemory(`${MEMORY} for this text`);
         return instance;
     };
     const first = run(FIRST_ROOM);
     const [questions, length] = first.told;
     return { replies: (length > FIRST_ROOM ? run(length) : first).reply, questions };
+}
+
+/** Answers a whole script, in bytes, from a machine in its opening state: the bytes of the replies, and how many begin with a question mark. */
+export function answerScript(module, script, region = REGION) {
+    return answerText(module, script, region, (instance, ...text) => instance.asks("lgp_run_script_in", instance.handed, ...text));
+}
+
+/** What is wanted of a source, in bytes: with "asm" its listing, with "tape" its tape, with "run" what a run of at most `limit` orders prints, and the panel; or its faults, and then `questions` is 1. */
+export function answerSource(module, wanted, source, limit = 0, region = REGION) {
+    return answerText(module, source, region, (instance, ...text) => instance.asks("lgp_source_in", instance.handed, [WANTED.indexOf(wanted)], limit, ...text));
 }

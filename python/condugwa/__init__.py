@@ -10,6 +10,7 @@ Commands and replies are those of docs/FORMATS.md. Bytes that are no UTF-8 text 
 
 from condugwa.accounts import Account, PutThere, Stored, Word, accounts_of
 from condugwa.assembling import Fault, Faults, Listing, assemble
+from condugwa.desks import Desk
 from condugwa.laboratories import Laboratory, Run
 from condugwa.library import OutOfMemory, OutOfMemoryError, Unread, UnreadError
 from condugwa.optima import Gain, Optimum, WordOptimum, optimum_of, word_optimum_of
@@ -56,6 +57,7 @@ __all__ = [
     "BadSignError",
     "ClockEnd",
     "ClockEndError",
+    "Desk",
     "Fault",
     "Faults",
     "Faulty",

@@ -1,6 +1,7 @@
 """The shared library and its calls, with bytes on both sides."""
 
 import ctypes
+import enum
 import functools
 import os
 import pathlib
@@ -11,6 +12,8 @@ _NO_MEMORY = 3
 _NOT_OPEN = 5
 _FIRST_ROOM = 65536
 _SESSION_ROOM = 4096
+# the longest reply to an end is that to a source, a line for each of its faults
+_LAST_ROOM = 2**25
 
 
 class OutOfMemoryError(MemoryError):
@@ -24,6 +27,43 @@ class UnreadError(OSError):
 # the names without `Error`, which programs may use as well
 OutOfMemory = OutOfMemoryError
 Unread = UnreadError
+
+
+class Told(enum.IntEnum):
+    """What a desk is told, by the numbers of c/lgp30.h."""
+
+    TYPED = 0
+    FIRST = 1
+    ONWARD = 2
+    FOUND = 3
+    NOT_OPENED = 4
+    NOT_READ = 5
+    TOO_LONG = 6
+    NOT_NAMED = 7
+    KEPT = 8
+    NOT_KEPT = 9
+
+
+class Wish(enum.IntEnum):
+    """What a desk wishes for."""
+
+    LINE = 0
+    ONWARD = 1
+    FILE = 2
+    KEPT = 3
+    NOTHING = 4
+
+
+class Shown(enum.IntEnum):
+    """What a desk shows."""
+
+    PROMPT = 0
+    NAME = 1
+    MADE = 2
+
+
+MANNERS = {"bare": 0, "prompting": 1, "echo": 2, "json": 3}
+"""How the replies of a desk are written."""
 
 
 class _Outcome(ctypes.Structure):
@@ -60,6 +100,11 @@ def _library() -> ctypes.CDLL:
     _declare(library.lgp_answer, [session, ctypes.c_char_p, ctypes.c_size_t, *reply])
     _declare(library.lgp_reply, [session, *reply])
     _declare(library.lgp_close, [session, *reply])
+    _declare(library.lgp_tell, [session, ctypes.c_uint32, ctypes.c_char_p, ctypes.c_size_t, *reply])
+    _declare(library.lgp_show, [session, ctypes.c_uint32, *reply])
+    _declare(library.lgp_wish, [session])
+    _declare(library.lgp_manner, [session, ctypes.c_uint32])
+    _declare(library.lgp_leave, [session, *reply])
     library.lgp_version.restype = ctypes.c_char_p
     library.lgp_version.argtypes = []
     return library
@@ -92,6 +137,13 @@ def run(script: bytes) -> "tuple[bytes, int]":
         room = outcome.length
 
 
+def _checked(status: int) -> int:
+    """A status. Raises ValueError where it says that no session is open."""
+    if status == _NOT_OPEN:
+        raise ValueError("the laboratory is closed")
+    return status
+
+
 class Session:
     """A session that is open from its making until it is closed, or refused memory."""
 
@@ -114,25 +166,49 @@ class Session:
     def answer(self, line: bytes) -> "tuple[bytes, int]":
         """The reply to a line, and 1 where it begins with a question mark.
 
-        Where the reply does not fit into the room, that is made as large and the reply taken once more.
-
         Raises OutOfMemoryError, and then the session is closed, or ValueError where it is closed.
         """
+        return self._given(_library().lgp_answer, line, len(line))
+
+    def tell(self, told: Told, text: bytes) -> "tuple[bytes, int]":
+        """What its desk writes when it is told something, and 1 where that is a refusal. Raises as `answer` does."""
+        return self._given(_library().lgp_tell, told, text, len(text))
+
+    def show(self, shown: Shown) -> bytes:
+        """What its desk shows. Raises as `answer` does."""
+        return self._given(_library().lgp_show, shown)[0]
+
+    @property
+    def wish(self) -> Wish:
+        """What its desk wishes for. Raises ValueError where the session is closed."""
+        return Wish(_checked(_library().lgp_wish(ctypes.byref(self._session))))
+
+    def set_manner(self, manner: int) -> None:
+        """Sets how its desk writes replies. Raises ValueError where the session is closed."""
+        _checked(_library().lgp_manner(ctypes.byref(self._session), manner))
+
+    def close(self) -> bytes:
+        """The reply to the session's end, empty where it is closed already, or where there was no memory for it."""
+        return self._ended(_library().lgp_close)[0]
+
+    def leave(self) -> "tuple[bytes, int]":
+        """What its desk writes when no line is typed any more, and 1 where that is a refusal. The session is closed then."""
+        self._room = ctypes.create_string_buffer(_LAST_ROOM)
+        return self._ended(_library().lgp_leave)
+
+    def _given(self, call: typing.Any, *words: typing.Any) -> "tuple[bytes, int]":
+        """What a call gives. Where that does not fit into the room, the room is made as large and it is taken once more."""
         outcome = _Outcome()
-        status = _library().lgp_answer(
-            ctypes.byref(self._session), line, len(line), self._room, len(self._room), ctypes.byref(outcome)
-        )
+        status = call(ctypes.byref(self._session), *words, self._room, len(self._room), ctypes.byref(outcome))
         if status == _NO_MEMORY:
             raise OutOfMemoryError("the library was refused memory")
-        if status == _NOT_OPEN:
-            raise ValueError("the laboratory is closed")
+        _checked(status)
         if outcome.length > len(self._room):
             self._room = ctypes.create_string_buffer(outcome.length)
             _library().lgp_reply(ctypes.byref(self._session), self._room, len(self._room), ctypes.byref(outcome))
         return ctypes.string_at(self._room, outcome.length), outcome.questions
 
-    def close(self) -> bytes:
-        """The reply to the session's end, empty where it is closed already, or where there was no memory for it."""
+    def _ended(self, call: typing.Any) -> "tuple[bytes, int]":
         outcome = _Outcome()
-        _library().lgp_close(ctypes.byref(self._session), self._room, len(self._room), ctypes.byref(outcome))
-        return ctypes.string_at(self._room, min(outcome.length, len(self._room)))
+        call(ctypes.byref(self._session), self._room, len(self._room), ctypes.byref(outcome))
+        return ctypes.string_at(self._room, min(outcome.length, len(self._room))), outcome.questions

@@ -1,11 +1,14 @@
 //! The laboratory for programs that are not written in Rattle: the functions of `c/lgp30.h`.
 #![tactic(auto)]
 
-ghost use Rattle.lgp_call.specs.Reply.{IsScriptGiven};
-ghost use Rattle.lgp_call.specs.Slot.{IsAnswered, IsClosed, IsOpened, IsRepeated};
+ghost use Rattle.lgp_call.specs.Reply.{IsScriptGiven, IsSourceAnswered};
+ghost use Rattle.lgp_call.specs.Session.{after_line, closing_reply};
+ghost use Rattle.lgp_call.specs.Slot.{HasManner, IsClosed, IsDone, IsOpened, IsRepeated, IsWishing};
+ghost use Rattle.lgp_call.specs.Telling.{after_shown, after_told};
+ghost use Rattle.lgp_desk.specs.Desk.{closing_text};
 ghost use Rattle.std.specs.Global.{Global};
 
-use lgp_call::{Outcome, Session, refuse, run_into};
+use lgp_call::{Outcome, Session, refuse, run_into, source_into};
 use lgp_parts::BoxParts;
 use slot::Slot;
 use std::alloc::Global;
@@ -24,6 +27,21 @@ pub extern "C" fn lgp_run_script(
     ensures { IsScriptGiven script.now room.old room.new outcome.new result }
 {
     run_into(alloc, script, room, outcome)
+}
+
+/// Gives what is wanted of a source, as `source_into` does.
+#[unsafe(no_mangle)]
+pub extern "C" fn lgp_source(
+    alloc: Global,
+    wanted: u32,
+    limit: u64,
+    source: &[u8],
+    room: &mut [u8],
+    outcome: &mut Outcome,
+) -> u32
+    ensures { IsSourceAnswered wanted limit source.now room.old room.new outcome.new result }
+{
+    source_into(alloc, wanted, limit, source, room, outcome)
 }
 
 /// Opens a session over memory from `malloc`.
@@ -60,8 +78,8 @@ pub extern "C" fn lgp_answer(
     room: &mut [u8],
     outcome: &mut Outcome,
 ) -> u32
-    ensures { IsAnswered line.now session.old.held session.new.held room.old room.new outcome.new
-        result }
+    ensures { IsDone (λ state. after_line state line.now) session.old.held session.new.held
+        room.old room.new outcome.new result }
 {
     let Some(parts) = mem::replace(session, Slot::empty(alloc)).into_parts() else {
         return refuse(outcome, 5);
@@ -105,10 +123,105 @@ pub extern "C" fn lgp_close(
     room: &mut [u8],
     outcome: &mut Outcome,
 ) -> u32
-    ensures { IsClosed session.old.held session.new.held room.old room.new outcome.new result }
+    ensures { IsClosed closing_reply session.old.held session.new.held
+        room.old room.new outcome.new result }
 {
     match mem::replace(session, Slot::empty(alloc)).into_parts() {
         Some(parts) => Box::into_inner(parts.into_box()).close_into(room, outcome),
+        None => refuse(outcome, 5),
+    }
+}
+
+/// Tells a session something by its number, as `Session::tell_into` does.
+///
+/// With status 3 the session is closed. Status 5 says that none is open: then nothing has changed but the outcome, whose numbers are 0.
+#[unsafe(no_mangle)]
+pub extern "C" fn lgp_tell(
+    alloc: Global,
+    session: &mut Slot,
+    what: u32,
+    text: &[u8],
+    room: &mut [u8],
+    outcome: &mut Outcome,
+) -> u32
+    ensures { IsDone (λ state. after_told state what text.now) session.old.held session.new.held
+        room.old room.new outcome.new result }
+{
+    let Some(parts) = mem::replace(session, Slot::empty(alloc)).into_parts() else {
+        return refuse(outcome, 5);
+    };
+    let mut whole = parts.into_box();
+    let status = whole.tell_into(what, text, room, outcome);
+    if status < 2 {
+        *session = Slot::of(BoxParts::of(whole));
+    }
+    status
+}
+
+/// Gives what a session shows by its number, as `Session::show_into` does. The status is that of `lgp_tell`.
+#[unsafe(no_mangle)]
+pub extern "C" fn lgp_show(
+    alloc: Global,
+    session: &mut Slot,
+    what: u32,
+    room: &mut [u8],
+    outcome: &mut Outcome,
+) -> u32
+    ensures { IsDone (λ state. after_shown state what) session.old.held session.new.held
+        room.old room.new outcome.new result }
+{
+    let Some(parts) = mem::replace(session, Slot::empty(alloc)).into_parts() else {
+        return refuse(outcome, 5);
+    };
+    let mut whole = parts.into_box();
+    let status = whole.show_into(what, room, outcome);
+    if status < 2 {
+        *session = Slot::of(BoxParts::of(whole));
+    }
+    status
+}
+
+/// What a session wishes for, by its number, as `Session::wish_number` says. 5 says that none is open.
+#[unsafe(no_mangle)]
+pub extern "C" fn lgp_wish(alloc: Global, session: &mut Slot) -> u32
+    ensures { IsWishing session.old.held session.new.held result }
+{
+    let Some(parts) = mem::replace(session, Slot::empty(alloc)).into_parts() else {
+        return 5;
+    };
+    let whole = parts.into_box();
+    let wish = whole.wish_number();
+    *session = Slot::of(BoxParts::of(whole));
+    wish
+}
+
+/// Sets how the replies of a session are written, as `Session::set_manner` does. The status is 0, or 5 where none is open.
+#[unsafe(no_mangle)]
+pub extern "C" fn lgp_manner(alloc: Global, session: &mut Slot, number: u32) -> u32
+    ensures { HasManner number session.old.held session.new.held result }
+{
+    let Some(parts) = mem::replace(session, Slot::empty(alloc)).into_parts() else {
+        return 5;
+    };
+    let mut whole = parts.into_box();
+    whole.set_manner(number);
+    *session = Slot::of(BoxParts::of(whole));
+    0
+}
+
+/// Tells a session that no line is typed any more, and closes it, as `Session::leave_into` does. The status is that of `lgp_close`.
+#[unsafe(no_mangle)]
+pub extern "C" fn lgp_leave(
+    alloc: Global,
+    session: &mut Slot,
+    room: &mut [u8],
+    outcome: &mut Outcome,
+) -> u32
+    ensures { IsClosed (λ state. closing_text state.seat) session.old.held session.new.held
+        room.old room.new outcome.new result }
+{
+    match mem::replace(session, Slot::empty(alloc)).into_parts() {
+        Some(parts) => Box::into_inner(parts.into_box()).leave_into(room, outcome),
         None => refuse(outcome, 5),
     }
 }

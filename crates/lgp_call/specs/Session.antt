@@ -2,19 +2,19 @@
 use Rattle.std.specs.Prelude.{ℕ, Bool, fold, if◌then◌else◌, List, [], codes, length}
 use Rattle.std.specs.List.{list_any}
 use Rattle.lgp_stream.specs.Language.{is_line_feed, is_question}
-use Rattle.lgp_stream.specs.Transcript.{Recorded, untouched}
-use Rattle.lgp_script.specs.LabState.{LabState, opening_state}
 use Rattle.lgp_monitor.specs.Monitor.{monitor_language}
+use Rattle.lgp_desk.specs.Desk.{Seat, taken_seat}
+use Rattle.lgp_desk.specs.declared.writing.Manner.TheVariants.{Bare}
 use Rattle.lgp_call.specs.declared.script.Outcome.{Outcome}
 
--- the state of the monitor, and what it replied last
+-- a desk, and what was replied last
 pub record SessionState : Type 0 where
-  pub recorded : Recorded LabState
+  pub seat : Seat
   pub reply : List ℕ
 
 -- before the first line
 abbrev pub opening_session : SessionState
-opening_session = record { recorded = untouched opening_state; reply = [] }
+opening_session = record { seat = taken_seat Bare; reply = [] }
 
 -- bytes with a line feed among them are more than a line: they are refused, and nothing is done
 abbrev pub has_line_feed : List ℕ → Bool
@@ -28,8 +28,8 @@ abbrev pub after_line : SessionState → List ℕ → SessionState
 after_line session line =
     if has_line_feed line then record session { reply = more_than_a_line }
     else record {
-      recorded = monitor_language.after session.recorded line;
-      reply = monitor_language.reply session.recorded line;
+      seat = record session.seat { recorded = monitor_language.after session.seat.recorded line };
+      reply = monitor_language.reply session.seat.recorded line;
     }
 
 -- after lines, one after another
@@ -38,7 +38,7 @@ after_all session lines = fold after_line session lines
 
 -- the reply to the session's end
 abbrev pub closing_reply : SessionState → List ℕ
-closing_reply session = monitor_language.closing session.recorded
+closing_reply session = monitor_language.closing session.seat.recorded
 
 -- what is reported of a reply: whether it begins with a question mark, and its length
 abbrev pub questions_in : List ℕ → ℕ

@@ -1,8 +1,10 @@
 -- Part of the public promise: what the calls of other languages do with the place of a session, in
 -- which one is open or none.
 use Rattle.std.specs.Prelude.{◌≡◌, ◌<◌, ◌≤◌, ℕ, List, Option, Some, None}
+use Rattle.lgp_desk.specs.Desk.{wish_at}
 use Rattle.lgp_call.specs.Reply.{IsGiven, IsGivenUnlessMemory, IsNotGiven}
-use Rattle.lgp_call.specs.Session.{SessionState, after_line, closing_reply, opening_session}
+use Rattle.lgp_call.specs.Session.{SessionState, opening_session}
+use Rattle.lgp_call.specs.Telling.{wish_number, with_manner}
 use Rattle.lgp_call.specs.Status.{closed_status, memory_status, open_status, unread_status}
 use Rattle.lgp_call.specs.declared.script.Outcome.{Outcome}
 
@@ -15,13 +17,15 @@ pub record IsOpened (old : Option SessionState) (new : Option SessionState) (sta
   pub already : (state : SessionState) → old ≡ Some state → status ≡ open_status
   pub unchanged : (state : SessionState) → old ≡ Some state → new ≡ old
 
--- a line is answered; where there was not enough memory, the session is closed
-pub record IsAnswered (line : List ℕ) (old : Option SessionState) (new : Option SessionState)
-    (before : List ℕ) (after : List ℕ) (outcome : Outcome) (status : ℕ) : Type 0 where
-  pub answered : (state : SessionState) → old ≡ Some state
-      → IsGivenUnlessMemory (after_line state line).reply before after outcome status
+-- something is done with a session, and the reply is given that it has then; where there was not
+-- enough memory, the session is closed
+pub record IsDone (next : SessionState → SessionState) (old : Option SessionState)
+    (new : Option SessionState) (before : List ℕ) (after : List ℕ) (outcome : Outcome)
+    (status : ℕ) : Type 0 where
+  pub given : (state : SessionState) → old ≡ Some state
+      → IsGivenUnlessMemory (next state).reply before after outcome status
   pub stands : (state : SessionState) → old ≡ Some state → status < unread_status
-      → new ≡ Some (after_line state line)
+      → new ≡ Some (next state)
   pub ended : unread_status ≤ status → new ≡ None
   pub closed : old ≡ None → IsNotGiven closed_status before after outcome status
 
@@ -33,10 +37,26 @@ pub record IsRepeated (old : Option SessionState) (new : Option SessionState)
   pub unchanged : new ≡ old
   pub closed : old ≡ None → IsNotGiven closed_status before after outcome status
 
--- the session is closed, with the reply to its end
-pub record IsClosed (old : Option SessionState) (new : Option SessionState)
-    (before : List ℕ) (after : List ℕ) (outcome : Outcome) (status : ℕ) : Type 0 where
-  pub answered : (state : SessionState) → old ≡ Some state
-      → IsGivenUnlessMemory (closing_reply state) before after outcome status
+-- the session is closed, and this text is given
+pub record IsClosed (text : SessionState → List ℕ) (old : Option SessionState)
+    (new : Option SessionState) (before : List ℕ) (after : List ℕ) (outcome : Outcome)
+    (status : ℕ) : Type 0 where
+  pub given : (state : SessionState) → old ≡ Some state
+      → IsGivenUnlessMemory (text state) before after outcome status
   pub ended : new ≡ None
   pub closed : old ≡ None → IsNotGiven closed_status before after outcome status
+
+-- what it wishes for is told by its number
+pub record IsWishing (old : Option SessionState) (new : Option SessionState) (status : ℕ)
+    : Type 0 where
+  pub wishes : (state : SessionState) → old ≡ Some state → status ≡ wish_number (wish_at state.seat)
+  pub unchanged : new ≡ old
+  pub closed : old ≡ None → status ≡ closed_status
+
+-- how its replies are written is set
+pub record HasManner (number : ℕ) (old : Option SessionState) (new : Option SessionState)
+    (status : ℕ) : Type 0 where
+  pub stands : (state : SessionState) → old ≡ Some state → new ≡ Some (with_manner state number)
+  pub known : (state : SessionState) → old ≡ Some state → status ≡ 0
+  pub none : old ≡ None → new ≡ None
+  pub closed : old ≡ None → status ≡ closed_status

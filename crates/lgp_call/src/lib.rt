@@ -1,4 +1,4 @@
-//! The laboratory for callers that give the room for its replies: a whole script in one call, and lines answered one at a time.
+//! The laboratory for callers that give the room for its replies: a whole script or source in one call, and sessions of the monitor.
 #![tactic(auto)]
 
 pub mod laws;
@@ -6,6 +6,8 @@ mod replies;
 mod room;
 mod script;
 mod session;
+mod source;
 
 pub use script::{Outcome, run_into};
 pub use session::{Session, refuse};
+pub use source::source_into;

@@ -1,7 +1,10 @@
 //! Replies as they are written.
-ghost use Rattle.std.specs.Prelude.{Some};
+ghost use Rattle.std.specs.Prelude.{◌≡◌, [], IfOk, IsErr, List, Some, false, ℕ};
+ghost use Rattle.lgp_call.specs.Reply.{IsTextGiven};
 
-use lgp_stream::{Failed, Sink};
+use crate::room::fill;
+use crate::script::Outcome;
+use lgp_stream::{Failed, Sink, StreamFault};
 use std::alloc::Allocator;
 
 /// The replies of a script, one after the other. A write that takes memory may be refused, and then fails.
@@ -9,6 +12,19 @@ use std::alloc::Allocator;
 pub(crate) struct Replies<A: Allocator> {
     pub(crate) text: Vec<u8, A>,
     pub(crate) refused: bool,
+}
+
+impl<A: Allocator> Replies<A> {
+    /// None is written yet.
+    pub(crate) fn new(alloc: A) -> Replies<A>
+        ensures text { result.text.items ≡ [] }
+        ensures refused { result.refused ≡ false }
+    {
+        Replies {
+            text: Vec::new(alloc),
+            refused: false,
+        }
+    }
 }
 
 impl<A: Allocator> Sink for Replies<A> {
@@ -28,5 +44,39 @@ impl<A: Allocator> Sink for Replies<A> {
 
     fn has_failed(&self) -> bool {
         self.refused
+    }
+}
+
+/// Writes replies into the room, as far as they fit, or reports why there are none. The answer is the status.
+pub(crate) fn give(
+    answered: Result<u64, StreamFault>,
+    replies: &[u8],
+    room: &mut [u8],
+    outcome: &mut Outcome,
+) -> u32
+    ensures given { IfOk answered (λ questions. IsTextGiven replies.now questions
+        room.old room.new outcome.new result) }
+    ensures refused { IsErr answered → (text : List ℕ) → (questions : ℕ)
+        → IsTextGiven text questions room.old room.new outcome.new result }
+{
+    match answered {
+        Ok(questions) => {
+            fill(room, replies);
+            *outcome = Outcome {
+                questions,
+                length: replies.len() as u64,
+            };
+            u32::from(questions > 0)
+        }
+        Err(fault) => {
+            *outcome = Outcome {
+                questions: 0,
+                length: 0,
+            };
+            match fault {
+                StreamFault::Read => 2,
+                StreamFault::Write(_) | StreamFault::Memory => 3,
+            }
+        }
     }
 }

@@ -3,8 +3,7 @@ ghost use Rattle.std.specs.Prelude.{◌≡◌, ◌++◌, IfOk, OnOk, false};
 ghost use Rattle.lgp_call.specs.Reply.{IsScriptGiven};
 ghost use Rattle.lgp_script.specs.Script.{script_faults, script_text};
 
-use crate::replies::Replies;
-use crate::room::fill;
+use crate::replies::{Replies, give};
 use lgp_script::{READS, run_script};
 use lgp_stream::{FeedOf, StreamFault};
 use std::alloc::Allocator;
@@ -47,28 +46,7 @@ pub fn run_into<A: Allocator + Copy>(
 ) -> u32
     ensures { IsScriptGiven script.now room.old room.new outcome.new result }
 {
-    let mut replies = Replies {
-        text: Vec::new(alloc),
-        refused: false,
-    };
-    match write_replies(alloc, script, &mut replies) {
-        Ok(questions) => {
-            fill(room, &replies.text);
-            *outcome = Outcome {
-                questions,
-                length: replies.text.len() as u64,
-            };
-            u32::from(questions > 0)
-        }
-        Err(fault) => {
-            *outcome = Outcome {
-                questions: 0,
-                length: 0,
-            };
-            match fault {
-                StreamFault::Read => 2,
-                StreamFault::Write(_) | StreamFault::Memory => 3,
-            }
-        }
-    }
+    let mut replies = Replies::new(alloc);
+    let answered = write_replies(alloc, script, &mut replies);
+    give(answered, &replies.text, room, outcome)
 }

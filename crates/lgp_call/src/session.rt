@@ -7,11 +7,13 @@ ghost use Rattle.lgp_call.specs.Status.{unread_status};
 
 use crate::room::fill;
 use crate::script::Outcome;
-use lgp_monitor::Monitor;
-use lgp_script::Laboratory;
-use lgp_stream::{Answers, LineBytes, is_question};
+use lgp_desk::{Desk, Manner};
+use lgp_monitor::Silence;
+use lgp_stream::{LineBytes, is_question};
 use std::alloc::{AllocError, Allocator};
 use std::marker::Model;
+
+mod telling;
 
 /// The refusal of bytes with a line feed among them.
 const MORE_THAN_A_LINE: &[u8] = b"? 1 Form: these are several lines; give them one at a time\n";
@@ -23,9 +25,10 @@ fn has_line_feed(line: &[u8]) -> bool
     line.iter().any(|byte| *byte == b'\n')
 }
 
-/// A monitor that answers one line after another, and its last reply.
+/// A desk whose monitor answers one line after another, and the last reply.
 pub struct Session<A: Allocator + Copy> {
-    monitor: Monitor<Laboratory<A>, A>,
+    alloc: A,
+    desk: Desk<A, Silence>,
     reply: Vec<u8, A>,
 }
 
@@ -33,7 +36,8 @@ pub struct Session<A: Allocator + Copy> {
 impl<A: Allocator + Copy> Drop for Session<A> {
     fn drop(self) {
         let Session {
-            monitor: _,
+            alloc: _,
+            desk: _,
             reply: _,
         } = self;
     }
@@ -45,7 +49,7 @@ impl<A: Allocator + Copy> Model for Session<A> {
     ghost Value = { SessionState };
 
     ghost view = { λ session. record {
-      recorded = session.monitor;
+      seat = session.desk;
       reply = session.reply.items;
     } };
 }
@@ -55,8 +59,10 @@ impl<A: Allocator + Copy> Session<A> {
     pub fn new(alloc: A) -> Result<Session<A>, AllocError>
         ensures { IfOk result (λ session. session ≡ opening_session) }
     {
+        let desk = Desk::new(alloc, Manner::Bare, Silence)?;
         Ok(Session {
-            monitor: Monitor::new(alloc)?,
+            alloc,
+            desk,
             reply: Vec::new(alloc),
         })
     }
@@ -79,7 +85,7 @@ impl<A: Allocator + Copy> Session<A> {
         if has_line_feed(line) {
             return self.reply.extend_from_slice(MORE_THAN_A_LINE);
         }
-        self.monitor.answer(&LineBytes::of(line), &mut self.reply)
+        self.desk.ask_monitor(&LineBytes::of(line), &mut self.reply)
     }
 
     /// Answers the session's end: a source that is open is closed with its reply, otherwise the reply is empty.
@@ -87,7 +93,7 @@ impl<A: Allocator + Copy> Session<A> {
         ensures { OnOk result (self.new.reply ≡ closing_reply self.old) }
     {
         self.reply.clear();
-        self.monitor.close(&mut self.reply)
+        self.desk.close_monitor(&mut self.reply)
     }
 
     /// Writes the last reply into the room, as far as it fits, and tells its whole length. The answer is the status of a reply.

@@ -80,14 +80,14 @@ free-tape (code ∷ more) = free-append (written_code code) (written_tape more) 
 
 -- ---- files whose lines are typed have lines
 
-abbrev IsFreeFile : Opened → Type 0
+abbrev pub IsFreeFile : Opened → Type 0
 IsFreeFile file = AllByRecursion IsLine file.left
 
-abbrev IsFreeInner : Option Opened → Type 0
+abbrev pub IsFreeInner : Option Opened → Type 0
 IsFreeInner (Some file) = IsFreeFile file
 IsFreeInner None = Unit {0}
 
-abbrev AreFreeFiles : List Opened → Type 0
+abbrev pub AreFreeFiles : List Opened → Type 0
 AreFreeFiles files = AllByRecursion IsFreeFile files
 
 files-append : (files : List Opened) (file : Opened) → AreFreeFiles files → IsFreeFile file → AreFreeFiles (files ++ file ∷ [])
@@ -110,16 +110,16 @@ files-open None outer free files = files
 
 -- ---- what was reported so far, and what is said then
 
-abbrev IsReported-at : Seat → Type 0
+abbrev pub IsReported-at : Seat → Type 0
 IsReported-at seat =
     IsReported script_language opening_state seat.recorded.state seat.recorded.transcript
     × IsFreeInner seat.inner × AreFreeFiles seat.outer
 
-abbrev AreSayable : List Handed → Type 0
+abbrev pub AreSayable : List Handed → Type 0
 AreSayable items = AllByRecursion IsSayable items
 
 -- it is reported after what is said, where that can be said by a script
-abbrev IsReportedAfter : Said → Type 0
+abbrev pub IsReportedAfter : Said → Type 0
 IsReportedAfter what = AreSayable what.handed → IsReported-at what.seat
 
 first-sayable : (xs ys : List Handed) → AreSayable (xs ++ ys) → AreSayable xs
@@ -247,7 +247,7 @@ reported-kept_said seat (Some wanted) kept reported = by_work (is_keep wanted.wo
   by_work false = λ all. reported
 reported-kept_said seat None kept reported = λ all. reported
 
-reported-told : (seat : Seat) (told : Told) → IsTyped told → IsReported-at seat → IsReportedAfter (said_to seat told)
+pub reported-told : (seat : Seat) (told : Told) → IsTyped told → IsReported-at seat → IsReportedAfter (said_to seat told)
 unfolding said_to
 reported-told seat (Typed line) free reported = by_role (takes_lines seat) where
   by_role : (takes : Bool) → IsReportedAfter (cond takes (line_said seat line) (nothing seat))

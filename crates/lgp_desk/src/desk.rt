@@ -322,6 +322,39 @@ impl<A: Allocator + Copy, P: Progress> Desk<A, P> {
 }
 
 impl<A: Allocator + Copy, P: Progress> Desk<A, P> {
+    /// Asks the monitor alone, whatever the desk wishes for: the bytes of the reply to a line are put after `reply`. A refused growth leaves
+    /// open in which state the desk is.
+    pub fn ask_monitor(
+        &mut self,
+        line: &LineBytes,
+        reply: &mut Vec<u8, A>,
+    ) -> Result<(), AllocError>
+        ensures reply { (text : List ℕ) → line.now ≡ kept_of text
+            → OnOk result (reply.new.items
+            ≡ reply.old.items ++ monitor_language.reply self.old.recorded text) }
+        ensures after { (text : List ℕ) → line.now ≡ kept_of text
+            → OnOk result (self.new ≡ record self.old {
+              recorded = monitor_language.after self.old.recorded text;
+            }) }
+    {
+        self.monitor.answer(line, reply)
+    }
+
+    /// Asks the monitor alone for the reply to the end of its lines. Nothing more is to be told the desk then.
+    pub fn close_monitor(&mut self, reply: &mut Vec<u8, A>) -> Result<(), AllocError>
+        ensures { OnOk result (reply.new.items
+            ≡ reply.old.items ++ monitor_language.closing self.old.recorded) }
+    {
+        self.monitor.close(reply)
+    }
+
+    /// Sets how replies are written from now on.
+    pub fn set_manner(&mut self, manner: Manner)
+        ensures { self.new ≡ record self.old { manner = manner } }
+    {
+        self.manner = manner;
+    }
+
     /// Is told a line that is typed: the text that is to be written.
     #[tactic(auto, unfolding(crate::specs::Desk::said_to))]
     pub fn typed(&mut self, line: &LineBytes) -> Result<Vec<u8, A>, AllocError>

@@ -1,7 +1,7 @@
 //! Sessions by what they reply, a table of lines with the reply to each, and with each growth refused in turn. What a reply has to be is
 //! taken from the descriptions of the script language and of the monitor.
 
-use crate::expect_eq;
+use crate::{expect_eq, statuses_in_turn};
 use lgp_call::{Outcome, Session};
 use lgp_limited::Limited;
 use std::alloc::{Allocator, Global};
@@ -197,31 +197,17 @@ fn answered_by<A: Allocator + Copy>(mut session: Session<A>) -> u32 {
     }
 }
 
-/// That of a new session with the nth growth refused; and whether one was.
-fn answered(limited: &Limited<Global>, nth: u64) -> (u32, bool) {
-    limited.refuse(nth);
-    let status = match Session::new(limited) {
+/// That of a new session.
+fn answered(limited: &Limited<Global>) -> u32 {
+    match Session::new(limited) {
         Ok(session) => answered_by(session),
         Err(_) => 3,
-    };
-    (status, limited.was_refused())
-}
-
-/// How many growths are refused one after another, each reported by status 3; 0 where one is not.
-fn refused_in_turn(limited: &Limited<Global>) -> u64 {
-    for nth in 1..2000 {
-        match answered(limited, nth) {
-            (_, false) => return nth - 1,
-            (3, true) => {}
-            _ => return 0,
-        }
     }
-    0
 }
 
 #[test]
 fn each_growth_refused_is_reported(rt: HostRuntime) {
     let limited = Limited::new(rt.alloc());
-    let growths = refused_in_turn(&limited);
+    let growths = statuses_in_turn(&limited, || answered(&limited));
     expect_eq(&rt, (growths > 8, limited.blocks_out()), (true, 0));
 }

@@ -7,9 +7,17 @@ mod call;
 mod desk;
 #[cfg(test)]
 mod monitor;
+#[cfg(test)]
+mod source;
+#[cfg(test)]
+mod telling;
 
 #[cfg(test)]
+use lgp_limited::Limited;
+#[cfg(test)]
 use lgp_stream::StreamFault;
+#[cfg(test)]
+use std::alloc::Global;
 #[cfg(test)]
 use std::fmt::Debug;
 #[cfg(test)]
@@ -51,4 +59,21 @@ fn ended<T: PartialEq + Drop>(
         Ok(seen) if !has_refused && seen == refused => End::Done,
         _ => End::Otherwise,
     }
+}
+
+/// Makes a call for another language with each growth refused in turn, until none is. How many there are, each with status 3; 0 where one has
+/// another status.
+#[cfg(test)]
+fn statuses_in_turn<F: FnMut() -> u32>(limited: &Limited<Global>, mut call: F) -> u64
+    requires { F.IsAlwaysCallable call }
+{
+    for nth in 0..2000 {
+        limited.refuse(nth + 1);
+        match (call(), limited.was_refused()) {
+            (_, false) => return nth,
+            (3, true) => {}
+            _ => return 0,
+        }
+    }
+    0
 }

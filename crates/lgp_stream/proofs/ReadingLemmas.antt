@@ -1,9 +1,9 @@
 -- The lines of a text that is read, whose bytes are taken one after another.
-use Rattle.std.proofs.Common.{◌≡◌, ℕ, ◌+◌, ◌<◌, ◌≤◌, Bool, true, false, cond, eqb, Option, Some, None, IfSome, List, [], ◌∷◌, ◌++◌, length, take, drop, get_or, refl, sym, ap, subst, ◌∙◌, append_assoc, arith}
+use Rattle.std.proofs.Common.{◌≡◌, ℕ, Bool, true, false, cond, eqb, Option, Some, None, IfSome, List, [], ◌∷◌, ◌++◌, length, refl, sym, ap, subst, ◌∙◌, append_assoc, arith}
 use Rattle.std.specs.Io.KnownBytes.{Consumes, IsAtEnd}
 use Rattle.std.specs.Str.Lines.{lines, strip_carriage_return}
 use Rattle.std.proofs.lemmas.Bool.Decides.{nat_tests}
-use Rattle.std.proofs.lemmas.List.{append-nil, drop_all, drop_more, get_or-take, length-take, length-take-le}
+use Rattle.std.proofs.lemmas.List.{append-nil}
 use Rattle.lgp_stream.specs.KeptLine.{Kept}
 use Rattle.lgp_stream.specs.OpenLineInside.{Open, is_unbegun, open_of, open_push, whole}
 use Rattle.lgp_stream.specs.LineReading.{HasLine, left_of}
@@ -77,18 +77,18 @@ same-read unread bytes None after none consumed = tt
 same-read unread bytes (Some text) None none consumed = absurd consumed
 same-read unread bytes (Some text) (Some more) none consumed = ap (λ (at : List ℕ). at ++ text) none ∙ consumed
 
-pub byte-first : (unread now rest : List ℕ) (byte : ℕ) (before remaining : Option (List ℕ)) → Consumes (left_of unread before) (left_of now remaining) [] → now ≡ byte ∷ rest
+byte-first : (unread now rest : List ℕ) (byte : ℕ) (before remaining : Option (List ℕ)) → Consumes (left_of unread before) (left_of now remaining) [] → now ≡ byte ∷ rest
     → HasByte (left_of unread before) (left_of rest remaining) (Some byte)
 byte-first unread now rest byte before remaining same is =
     Consumes-trans (left_of unread before) (left_of now remaining) (left_of rest remaining) [] (byte ∷ []) same (byte-unread now rest byte remaining is)
 
+-- the next byte, after what was read has been read on
+pub byte-next : (unread now rest : List ℕ) (before remaining : Option (List ℕ)) (got : Option ℕ) → Consumes (left_of unread before) (left_of now remaining) [] → (now ≡ [] → IsAtEnd (left_of now remaining))
+    → IfSome got (λ byte. now ≡ byte ∷ rest) → (got ≡ None → (now ≡ []) × (rest ≡ [])) → HasByte (left_of unread before) (left_of rest remaining) got
+byte-next unread now rest before remaining None same end some none =
+    let same_rest : now ≡ rest = (none refl).0 ∙ sym (none refl).1 in
+    (subst (λ (at : List ℕ). Consumes (left_of unread before) (left_of at remaining) []) same_rest same, subst (λ (at : List ℕ). IsAtEnd (left_of at remaining)) same_rest (end (none refl).0))
+byte-next unread now rest before remaining (Some byte) same end some none = byte-first unread now rest byte before remaining same some
+
 pub byte-is : (now after : Option (List ℕ)) (got next : Option ℕ) → got ≡ next → HasByte now after got → HasByte now after next
 byte-is now after got next is has = subst (λ (at : Option ℕ). HasByte now after at) is has
-
-pub unread-none : (portion : List ℕ) (first past : ℕ) → past ≤ first → drop first (take past portion) ≡ []
-unread-none portion first past within = drop_all first (take past portion) (rw (length-take past portion) (omega (arith, within)))
-
-pub unread-byte : (portion : List ℕ) (first past : ℕ) → first < past → past ≤ length portion → drop first (take past portion) ≡ get_or portion first 0 ∷ drop (first + 1) (take past portion)
-unread-byte portion first past less within =
-    let inside : first < length (take past portion) = rw (length-take-le past portion within) less in
-    drop_more (take past portion) first 0 inside ∙ ap (λ (byte : ℕ). byte ∷ drop (first + 1) (take past portion)) (get_or-take past portion first 0 less)

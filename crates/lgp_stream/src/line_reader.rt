@@ -1,6 +1,6 @@
 //! The lines of a text that is read, one after another.
 
-ghost use Rattle.std.specs.Prelude.{◌≡◌, ◌+◌, ◌*◌, ◌<◌, ◌≤◌, [], IfOk, IfSome, IsErr, None, OnOk, Some, false, length, true};
+ghost use Rattle.std.specs.Prelude.{◌≡◌, ◌+◌, ◌*◌, ◌<◌, ◌≤◌, [], ◌∷◌, IfOk, IfSome, IsErr, None, OnOk, Some, false, length, true};
 ghost use Rattle.std.specs.Io.KnownBytes.{Consumes, IsAtEnd};
 ghost use Rattle.lgp_stream.specs.LineReading.{HasLine, IsBrokenLine, left_of};
 ghost use Rattle.lgp_stream.specs.OpenLineInside.{open_of};
@@ -43,8 +43,22 @@ impl ReadBytes {
         }
     }
 
+    /// The next byte of those that were read, if there is one.
+    fn next_read(&mut self) -> Option<u8>
+        ensures byte { IfSome result (λ byte. self.old ≡ byte ∷ self.new) }
+        ensures none { result ≡ None → (self.old ≡ []) × (self.new ≡ []) }
+    {
+        if self.first == self.past {
+            return None;
+        }
+        let byte = self.portion[self.first];
+        self.first += 1;
+        Some(byte)
+    }
+
     /// Reads bytes, where all that were read are in a line.
     fn refill<R: Feed>(&mut self, reader: &mut R) -> Result<(), Failed>
+        requires { self.old ≡ [] }
         ensures kept { OnOk result (Consumes (left_of self.old (R.remaining reader.old))
             (left_of self.new (R.remaining reader.new)) []) }
         ensures end { OnOk result (self.new ≡ []
@@ -55,9 +69,6 @@ impl ReadBytes {
             ≤ R.reads reader.old * 4097 + length self.old }
         ensures failed { IsErr result → R.failed reader.new ≡ true }
     {
-        if self.first < self.past {
-            return Ok(());
-        }
         self.first = 0;
         self.past = 0;
         self.past = reader.read(&mut self.portion)?;
@@ -75,13 +86,11 @@ impl ReadBytes {
             < R.reads reader.old * 4097 + length self.old)) }
         ensures failed { IsErr result → R.failed reader.new ≡ true }
     {
-        self.refill(reader)?;
-        if self.first == self.past {
-            return Ok(None);
+        if let Some(byte) = self.next_read() {
+            return Ok(Some(byte));
         }
-        let byte = self.portion[self.first];
-        self.first += 1;
-        Ok(Some(byte))
+        self.refill(reader)?;
+        Ok(self.next_read())
     }
 
     /// Takes bytes into a line, up to a line feed, and answers whether there was one. If there was none, the text has ended.

@@ -4,12 +4,12 @@ import { readFileSync } from "node:fs";
 import { test } from "node:test";
 import { OWN } from "../front.mjs";
 import { Help } from "../help.mjs";
-import { Recorded } from "../recorded.mjs";
 import { commandsOf } from "../replies.mjs";
 import { Session, compiled } from "../session.mjs";
+import { TextSession } from "../text_session.mjs";
 
 const module = compiled(readFileSync(new URL("../lgp_c_region.wasm", import.meta.url)));
-const open = () => new Recorded(new Session(module, 2 ** 22));
+const open = () => new TextSession(new Session(module, 2 ** 22));
 const openBeside = () => {
     const recorded = open();
     return { type: async (line) => recorded.answer(line), close: async () => {} };

@@ -102,20 +102,42 @@ inFolder("statuses", { two: "turn 5\n" }, (here) => {
     }
 });
 
-inFolder("what is not done here is handed back, and nothing is said or read", { point: " z\n.\n end\n", wide: `; ${"x".repeat(5000)}\n end\n` }, (here) => {
-    const lines = [["tape", "point"], ["--help"], ["--version"], ["asm"], ["asm", "point"], ["asm", "wide"], ["run", "point", "4294967296"], ["script", "a", "b"], ["jump"], ["batch"], ["script", ""]];
-    for (const words of lines) assert.deepEqual([words, lab(words, "panel\n", here)], [words, { text: "", told: "", status: HANDED_BACK }]);
-    for (const words of [["--help"], ["-V"], ["--echo", "--echo"], ["--none"]]) assert.equal(monitor(words, "panel\n", here).status, HANDED_BACK);
-    const asked = (words) => ran("--takes", ["lgp_lab", ...words], "panel\n", here);
-    for (const words of lines) assert.deepEqual([words, asked(words)], [words, { text: "", told: "", status: HANDED_BACK }]);
+inFolder("mistaken words have their own status, and nothing is read or done", { good: " z\n end\n" }, (here) => {
+    const mistaken = {
+        jump: "error: unrecognized subcommand 'jump'\n\nUsage: lgp_lab [COMMAND]", "--loud": "error: unexpected argument '--loud'\n\nUsage: lgp_lab [COMMAND]",
+        asm: "error: the following required arguments were not provided:\n  <FILE>\n\nUsage: lgp_lab asm <FILE>", batch: "error: the following required arguments were not provided:\n  <FILE>...\n\nUsage: lgp_lab batch <FILE>...",
+        run: "error: the following required arguments were not provided:\n  <FILE>\n  <LIMIT>\n\nUsage: lgp_lab run <FILE> <LIMIT>", "run good": "error: the following required arguments were not provided:\n  <LIMIT>\n\nUsage: lgp_lab run <FILE> <LIMIT>",
+        "run good 4294967296": "error: invalid value '4294967296' for '<LIMIT>': it is a number from 0 to 4294967295\n\nUsage: lgp_lab run <FILE> <LIMIT>",
+        "run good five": "error: invalid value 'five' for '<LIMIT>': it is a number from 0 to 4294967295\n\nUsage: lgp_lab run <FILE> <LIMIT>",
+        "script a b": "error: unexpected argument 'b' found\n\nUsage: lgp_lab script <FILE>", "tape --loud": "error: unexpected argument '--loud' found\n\nUsage: lgp_lab tape <FILE>",
+    };
+    for (const [words, why] of Object.entries(mistaken))
+        assert.deepEqual([words, lab(words.split(" "), "panel\n", here)], [words, { text: "", told: `${why}\n\nFor more information, try '--help'.\n`, status: 64 }]);
+    const usage = "Usage: lgp_monitor [OPTIONS] [FILE]...\n\nFor more information, try '--help'.\n";
+    assert.deepEqual(monitor(["--none"], "panel\n", here), { text: "", told: `error: unexpected argument '--none' found\n\n${usage}`, status: 64 });
+    assert.deepEqual(monitor(["--echo", "--echo"], "panel\n", here), { text: "", told: `error: the argument '--echo' cannot be used multiple times\n\n${usage}`, status: 64 });
+    for (const call of [lab, monitor]) assert.deepEqual(call(["script\ufffd"], "", here), { text: "", told: "error: the words of the command line are not UTF-8 text\n", status: 64 });
 });
 
-inFolder("whether words are taken is answered before anything is done", { good: " z\n end\n" }, (here) => {
-    const asked = (...words) => ran("--takes", words, "panel\n", here);
-    for (const words of [["lgp_lab"], ["lgp_lab", "asm", "good"], ["lgp_lab", "script", "good"], ["lgp_monitor", "--json", "good"]])
-        assert.deepEqual([words, asked(...words)], [words, { text: "", told: "", status: 0 }]);
-    const listed = spawnSync("bash", ["-c", `cat | { node ${program} --takes lgp_lab asm "$0" && node ${program} lgp_lab asm "$0"; }`, "/dev/stdin"], { input: " z\n end\n" });
-    assert.equal(listed.stdout.toString(), lab(["asm", "good"], "", here).text);
+inFolder("words after two hyphens are files, and one hyphen is a file's name", { "--echo": "turn 5\n", "-": "turn 6\n" }, (here) => {
+    assert.equal(monitor(["--", "--echo"], "", here).text, "clock 5\n");
+    assert.equal(monitor(["-", "--echo"], "", here).text, "> turn 6\nclock 6\n");
+    assert.equal(lab(["batch", "-", "--", "--echo"], "", here).text, "file -\nclock 6\nfile --echo\nclock 5\n");
+});
+
+inFolder("each source is listed, taped and run, whatever lines it has", { point: " z\n.\n end\n", wide: `; ${"x".repeat(5000)}\n end\n`, good: " z\n end 0000\n", last: " end" }, (here) => {
+    assert.equal(lab(["asm", "point"], "", here).text, "line 2 BadLabel\n");
+    assert.equal(lab(["asm", "wide"], "", here).text, `              ; ${"x".repeat(5000)}\n               end\n`);
+    assert.deepEqual(lab(["tape", "good"], "", here), { text: "000k0000'wwwwwwwj'00000000'[16]800f0000'\n", told: lab([], "", here).told, status: 0 });
+    assert.equal(lab(["asm", "last"], "", here).text, "               end\n");
+    const piped = spawnSync("bash", ["-c", `cat | node ${program} lgp_lab asm /dev/stdin`], { input: " z\n end\n", ...here });
+    assert.equal(piped.stdout.toString(), "0000 00000000  z\n               end\n");
+});
+
+inFolder("what cannot be read or written is said", {}, (here) => {
+    mkdirSync(join(here.cwd, "folder"));
+    assert.match(lab(["script", "folder"], "", here).told, /\nlgp_lab: the input could not be read: EISDIR[^\n]*\n$/);
+    if (existsSync("/dev/full")) assert.match(monitor([], "panel\n", { stdio: ["pipe", openSync("/dev/full", "w"), "pipe"] }).told, /\nlgp_monitor: the output could not be written: ENOSPC[^\n]*\n$/);
 });
 
 test("a reply comes before the next line is read", async () => {
@@ -169,16 +191,13 @@ inFolder("dumps that are none", { odd: "0000 00000001\n", zero: "0000 00000000\n
     ].join("\n"));
 });
 
-const NATIVE = "only the native program reads and writes files of this form; ./prove lgp30m makes it";
-
-/** What counts for a line's room is the text of the codes: line ends and groups of codes with signs have none, and no group is cut in two. */
 inFolder("tapes of many lines and groups", {
     lines: `${"0".repeat(80)}\n`.repeat(51) + "0".repeat(10), groups: `${"[02]".repeat(20)}\r\n`.repeat(60), cut: `${"0".repeat(4088)}[02]1\n`,
     long: `${"0".repeat(80)}\n`.repeat(51) + "0".repeat(11), bad: `${"0".repeat(80)}\n`.repeat(60) + "[6x]", empty: "",
 }, (here) => {
     const { text } = monitor([], "tape lines\ntape groups\ntape cut\ntape long\ntape bad\ntape empty\n", here);
     assert.deepEqual(text.trimEnd().split("\n"), [
-        "ok 4090", "ok 1200", "ok 4090", "? 13 File long: more than 4090 bytes of tape text; only the native program mounts so long a tape; ./prove lgp30m makes it",
+        "ok 4090", "ok 1200", "ok 4090", "ok 4091",
         "? 13 File bad: the byte at place 4860, counting from 0, in line 61, does not begin a tape sign", "ok 0",
     ]);
 });
@@ -189,8 +208,7 @@ inFolder("tapes", { tape: "l2\n[16][02]'\n", cut: "[1\n6]", bad: "12\n3Q", long:
     assert.equal(text, [
         "ok 5", "? 13 File cut: the byte at place 0, counting from 0, in line 1, does not begin a tape sign",
         "? 13 File bad: the byte at place 4, counting from 0, in line 2, does not begin a tape sign",
-        "? 13 File long: more than 4090 bytes of tape text; only the native program mounts so long a tape; ./prove lgp30m makes it",
-        `? 13 File archive: ${NATIVE}`, "mount 12[16]0'", "",
+        "ok 5000", "ok 4", "mount 12[16]0'", "tape long", "mount 12[16]'", "",
     ].join("\n"));
 });
 
@@ -204,13 +222,14 @@ inFolder("what was printed is kept as text, without a trace of what was asked", 
     assert.deepEqual(["blank", "tape", "tape two"].map((name) => readFileSync(join(here.cwd, name), "utf8")), ["", "h[04]", "h[04]"]);
 });
 
-inFolder("files of other forms are refused, and none is written", { file: "d -lt 0000 00000002\n" }, (here) => {
-    const [read, kept] = [["archive", "bytes", "restore-simh"], ["copy", "copy-archive", "copy-bytes", "punch-archive", "punch-bytes", "save-simh"]];
-    const words = [...read, ...kept];
-    assert.equal(monitor([], words.map((word) => `${word} file\n`).join(""), here).text, `? 13 File file: ${NATIVE}\n`.repeat(words.length));
-    assert.equal(monitor([], kept.map((word) => `${word} new\n`).join(""), here).text, `? 13 File new: ${NATIVE}\n`.repeat(kept.length));
-    assert.equal(monitor([], read.map((word) => `${word} none\n`).join(""), here).text, "? 13 File none: it cannot be opened\n".repeat(read.length));
-    assert.deepEqual([readdirSync(here.cwd), readFileSync(join(here.cwd, "file"), "utf8")], [["file"], "d -lt 0000 00000002\n"]);
+inFolder("a tape and a drum are kept and read in each form", {}, (here) => {
+    const kept = "mount 12[16]0'\ncopy text\ncopy-archive archive\ncopy-bytes bytes\nput 0050 = 3\nsave-simh drum\nput 0050 = 4\n";
+    const read = "archive archive\nbytes bytes\ntape text\nrestore-simh drum\ntranscript\n";
+    assert.equal(monitor([], kept + read, here).text, [
+        "ok 5", "saved text", "saved archive", "saved bytes", "ok", "saved drum", "ok", "ok 5", "ok 5", "ok 5", "restored 1",
+        "mount 12[16]0'", "put 0050 00000006", "put 0050 00000008", "mount 12[16]0'", "mount 12[16]0'", "mount 12[16]0'", "put 0050 00000006", "",
+    ].join("\n"));
+    assert.deepEqual(readdirSync(here.cwd).sort(), ["archive", "bytes", "drum", "text"]);
 });
 
 inFolder("files that are refused", { point: " z\n.\n", self: "do self\n" }, (here) => {
