@@ -117,15 +117,23 @@ static void find(struct host *host)
     free(name);
 }
 
+/* Opens a new file beside the one of a name; its name is written into a room with place for five bytes more. */
+static FILE *open_beside(const char *name, char *beside)
+{
+    static const char *const endings[] = {".new", ".new1", ".new2", ".new3"};
+    FILE *file = NULL;
+    for (size_t at = 0; file == NULL && at < sizeof endings / sizeof *endings; at++) {
+        file = fopen(strcat(strcpy(beside, name), endings[at]), "wbx");
+    }
+    return file;
+}
+
 /* Keeps a text in the file of a name: first in a new one beside it, so that the old one stays where that
  * fails. Whether it is there. */
 static int keep_file(const char *name, const char *text, size_t length)
 {
-    char *beside = malloc(strlen(name) + sizeof ".new");
-    if (beside == NULL) {
-        return 0;
-    }
-    FILE *file = fopen(strcat(strcpy(beside, name), ".new"), "wbx");
+    char *beside = malloc(strlen(name) + sizeof ".new1");
+    FILE *file = beside == NULL ? NULL : open_beside(name, beside);
     int is_kept = file != NULL && fwrite(text, 1, length, file) == length;
     is_kept = file != NULL && fclose(file) == 0 && is_kept && rename(beside, name) == 0;
     if (file != NULL && !is_kept) {
