@@ -20,10 +20,11 @@ const SHOWN = ["prompt", "name", "made"];
 const WISHES = ["line", "onward", "file", "kept", "nothing"];
 const WANTED = ["asm", "tape", "run"];
 const MANNERS = ["bare", "prompting", "echo", "json"];
-const NONE = new Uint8Array();
 
 /** How many bytes a session has, where nothing else is said. */
 export const REGION = 2 ** 26;
+
+const NO_BYTES = new Uint8Array();
 
 /** There was not enough memory. A session is closed then. */
 export class NoMemory extends Error {}
@@ -166,7 +167,7 @@ export class Session {
     }
 
     /** Tells its desk something, with the bytes that belong to it: the bytes that are to be written, and whether they are a refusal. Throws NoMemory. */
-    tell(what, bytes = NONE) {
+    tell(what, bytes = NO_BYTES) {
         return this.#given("lgp_tell_in", [TOLD.indexOf(what)], ...this.#instance.write(bytes));
     }
 
