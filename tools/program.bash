@@ -116,9 +116,9 @@ mark_module() {
 run_module() {
     answer_recorded "$@"
     # node takes /dev/null where input or output is closed; there reading and writing fail, as the program's do
-    { : <&0; } 2>/dev/null || exec </
-    { : >&1; } 2>/dev/null || exec >/dev/full
-    { : >&2; } 2>/dev/null || exec 2>/dev/full
+    [ -e /dev/fd/0 ] || exec </
+    [ -e /dev/fd/1 ] || exec >/dev/full
+    [ -e /dev/fd/2 ] || exec 2>/dev/full
     exec node "$top/page/module/terminal.mjs" "$caller" "$@"
 }
 
