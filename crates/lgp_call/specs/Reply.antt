@@ -29,9 +29,9 @@ pub record IsGivenUnlessMemory (reply : List ℕ) (before : List ℕ) (after : L
   pub given : status < unread_status → IsGiven reply before after outcome status
   pub refused : unread_status ≤ status → IsNotGiven memory_status before after outcome status
 
--- a text with so many questions is given: the status says whether there are any, its bytes are in the
--- room, as far as they fit, and the outcome counts both; unless what it answers could not be read, or
--- there was not enough memory
+-- a text with so many questions is given: the status says whether there are any, its bytes are in
+-- the room, as far as they fit, and the outcome counts both; unless what it answers could not be
+-- read, or there was not enough memory
 pub record IsTextGiven (text : List ℕ) (questions : ℕ) (before : List ℕ) (after : List ℕ)
     (outcome : Outcome) (status : ℕ) : Type 0 where
   pub status_of : status < unread_status → status ≡ answered_status questions
@@ -46,8 +46,8 @@ pub record IsTextGiven (text : List ℕ) (questions : ℕ) (before : List ℕ) (
 abbrev pub IsScriptGiven : List ℕ → List ℕ → List ℕ → Outcome → ℕ → Type 0
 IsScriptGiven script = IsTextGiven (script_text script) (script_faults script)
 
--- what a source is answered, by the number of what is wanted of it: its listing, its tape, or a run of
--- at most so many orders; of another number nothing
+-- what a source is answered, by the number of what is wanted of it: its listing, its tape, or a run
+-- of at most so many orders; of another number nothing
 abbrev pub source_answer : ℕ → ℕ → List ℕ → FileAnswer
 source_answer wanted limit source = option_map_or (λ answer. answer source)
     (slice_get (asm_answer ∷ tape_answer ∷ run_answer limit ∷ []) wanted)

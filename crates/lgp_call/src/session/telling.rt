@@ -155,7 +155,8 @@ impl<A: Allocator + Copy> Session<A> {
 
     /// Tells the desk that no line is typed any more, and gives the text that is to be written as `close_into` gives a reply.
     pub fn leave_into(mut self, room: &mut [u8], outcome: &mut Outcome) -> u32
-        ensures { IsGivenUnlessMemory (closing_text self.seat) room.old room.new outcome.new result }
+        ensures { IsGivenUnlessMemory (closing_text self.seat)
+            room.old room.new outcome.new result }
     {
         match self.desk.close() {
             Ok(text) => {
