@@ -124,12 +124,16 @@ run_module() {
 
 # Writes what the program writes for words that ask for its help or its version, as .ci/calls keeps it, and ends; returns for all other words.
 answer_recorded() {
-    local words=$* text
-    case ${!#} in
-        --help | -h | --version | -V) ;;
-        *) [ "${1-}" = help ] || return 0; words=${2:+$2 }--help ;;
-    esac
-    text=$(awk -v call="\$ $caller $words </dev/null" '
+    local last=${!#} command='' text
+    if [ "$caller" = lgp_lab ]; then
+        case ${1-} in
+            -*) ;;
+            help) command=${2-} last=--help ;;
+            *) command=${1-} ;;
+        esac
+    fi
+    case $last in --help | -h | --version | -V) ;; *) return 0 ;; esac
+    text=$(awk -v call="\$ $caller ${command:+$command }$last </dev/null" '
         /^\$ / { is_it = ($0 == call); next }
         is_it && sub(/^> /, "") { print; found = 1 }
         END { exit !found }
