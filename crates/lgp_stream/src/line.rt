@@ -142,8 +142,8 @@ impl Line {
     {
         if self.held {
             self.bytes.push(b'\r');
+            self.held = false;
         }
-        self.held = false;
     }
 
     /// One byte more.
