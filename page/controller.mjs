@@ -64,6 +64,8 @@ export class Controller extends EventTarget {
     isCounted = false;
     /** What the script says of the words that it puts, by their addresses. */
     comments = new Map();
+    /** Whether an action is under way: until it has ended, what is known may be partly of before it. */
+    isActing = false;
     /** What a run under way has done so far, or null, and what the last one did. */
     progress = null;
     lastRun = null;
@@ -170,13 +172,14 @@ export class Controller extends EventTarget {
 
     #act(action) {
         const done = this.#tail.then(async () => {
+            this.isActing = true;
             try {
                 return await action();
             } catch (failure) {
                 await this.#recover(failure);
                 return undefined;
             } finally {
-                this.progress = null;
+                Object.assign(this, { isActing: false, progress: null });
                 this.dispatchEvent(new Event("change"));
             }
         });

@@ -251,11 +251,11 @@ export function makeDrum(laboratory, texts, { playing, held, isFast }) {
     const { text } = texts;
     const { box, ring, trail, still } = makePicture(texts, () => { if (laboratory.panel !== null) frame(); });
     const key = makeKey(text, h("span", { class: "dot next" }), text("nextOrder"), " ", h("span", { class: "dot operand" }), text("operand"));
-    /** The word that the last order has stored, for a moment after it has done so. The moment begins when what was done is shown: a picture drawn in between may know an order that is yet to be played. */
+    /** The word that the last order has stored, for a moment after it has done so. The moment begins when what was done is shown: a picture drawn in between, or during an action, may know an order that is yet to be played. */
     let [told, until] = [null, 0];
     const begin = () => {
         const account = laboratory.accounts.at(-1);
-        if (held() === null && account !== told) [told, until] = [account, performance.now() + WRITTEN_MILLISECONDS];
+        if (!laboratory.isActing && held() === null && account !== told) [told, until] = [account, performance.now() + WRITTEN_MILLISECONDS];
     };
     const writtenNow = () => {
         const account = laboratory.accounts.at(-1);
