@@ -459,23 +459,26 @@ const story = (browser) => browser.value(`(() => {
     };
 })()`);
 
-/** Steps one order, and gives what the page shows at each picture while it is played, and at its end. */
+/** Steps one order, and gives what the page shows at each picture while it is played, and at its end. The page's own pictures count: a slow browser may not show one of them. */
 const watched = (browser, shown) => browser.value(`new Promise((resolve) => {
-    const [seen, isMoving] = [[], () => document.querySelector(".drum-box").dataset.moving === "true"];
+    const [seen, box] = [[], document.querySelector(".drum-box")];
+    const pictures = new MutationObserver(() => {
+        const isMoving = box.dataset.moving === "true";
+        if (isMoving || seen.length > 0) seen.push(${shown});
+        if (isMoving || seen.length === 0) return;
+        pictures.disconnect();
+        resolve(seen);
+    });
+    pictures.observe(box, { attributeFilter: ["data-moving"] });
     document.querySelector("#step").click();
-    const next = () => {
-        if (seen.length > 0 || isMoving()) seen.push(${shown});
-        if (seen.length > 1 && !isMoving()) resolve(seen);
-        else requestAnimationFrame(next);
-    };
-    next();
 })`);
 
 /** From now on `markedCells` has each cell of the drum that was marked as written: a mark stands for a moment only, which may be shorter than a picture on a slow machine. */
 const noteMarks = (browser) => browser.value(`(() => {
     window.markedCells = new Set();
-    const note = (changes) => changes.map(({ target }) => target).filter((it) => it.classList.contains("written")).forEach((it) => markedCells.add(it));
-    new MutationObserver(note).observe(document.querySelector(".ring"), { subtree: true, attributeFilter: ["class"] });
+    const wasMarked = ({ oldValue }) => (oldValue ?? "").split(" ").includes("written");
+    const note = (changes) => changes.filter((it) => !wasMarked(it) && it.target.classList.contains("written")).forEach(({ target }) => markedCells.add(target));
+    new MutationObserver(note).observe(document.querySelector(".ring"), { subtree: true, attributeOldValue: true, attributeFilter: ["class"] });
 })()`);
 
 /** Each order is told by a sentence and a bar that fills; what it writes or prints is seen when it has done so, and that the program has changed itself is told for three orders. */
@@ -1371,17 +1374,26 @@ async function end() {
     await browser.end();
 }
 
-for (const name of Object.keys(visits)) {
-    let { isWell, line } = await visited(name);
-    // an engine that has crashed, or a machine that stood still, says nothing of the page, unless the same comes again in a new engine
-    if (!isWell) {
+/** How often a visit is tried: an engine that has crashed, or a machine that stood still, says nothing of the page, unless the same comes again in new engines. */
+const TRIES = 3;
+
+/** Tries a visit until it is well. Gives whether it was, and the lines of all tries, the last one first; what a page told in a try before the last is told with that. */
+async function tried(name) {
+    const lines = [];
+    for (let more = TRIES - 1; ; more -= 1) {
+        const before = browser.told.length;
+        const { isWell, line } = await visited(name);
+        if (isWell || more === 0) return { isWell, lines: [line, ...lines] };
+        lines.unshift([line, ...browser.told.splice(before)].join("; told: "));
         await end();
         browser = await Engine.start();
-        const again = await visited(name);
-        [isWell, line] = [again.isWell, `${again.line}; the first time: ${line}`];
     }
+}
+
+for (const name of Object.keys(visits)) {
+    const { isWell, lines } = await tried(name);
     failed += isWell ? 0 : 1;
-    console.log(line.replaceAll("\n", " "));
+    console.log(lines.join("; the time before: ").replaceAll("\n", " "));
 }
 await end();
 if (toldByPages.length > 0) {
