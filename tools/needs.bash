@@ -5,6 +5,16 @@ missing() {
     exit 1
 }
 
+# Installs a Debian package. A list of packages that could not be fetched, or another installation under way, is often over after a while.
+install_package() {
+    local pause
+    for pause in 0 15 60; do
+        sleep "$pause"
+        { apt-get update && DEBIAN_FRONTEND=noninteractive apt-get -o DPkg::Lock::Timeout=300 install -y "$1"; } >/dev/null 2>&1 && return
+    done
+    return 1
+}
+
 # needed COMMAND PACKAGE TEST..: installs the Debian package that has a command where a test of that fails, if this is Debian and that can
 # be done.
 needed() {
@@ -12,7 +22,7 @@ needed() {
     shift 2
     if ! "$@" >/dev/null 2>&1; then
         command -v apt-get >/dev/null 2>&1 || missing "$command" "$package"
-        { apt-get update && apt-get install -y "$package"; } >/dev/null 2>&1 || missing "$command" "$package"
+        install_package "$package" || missing "$command" "$package"
         "$@" >/dev/null 2>&1 || missing "$command" "$package"
     fi
 }
