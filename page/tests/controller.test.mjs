@@ -49,6 +49,15 @@ live("what is live is what the monitor says at each look", async (laboratory) =>
     assert.equal(await after("orders 1"), "normal oneop manual compute read keys stop");
 });
 
+live("an action is under way until its change is told: what is known before that may be partly old", async (laboratory) => {
+    await laboratory.say("put 0000 b 0010", "put 0001 u 0000", "press start");
+    const seen = [];
+    laboratory.addEventListener("change", () => seen.push(["change", laboratory.isActing]));
+    await laboratory.step(1, true, ({ order }) => seen.push([order, laboratory.isActing]));
+    await laboratory.say("no such command");
+    assert.deepEqual([seen, laboratory.isActing], [[["b 0010", true], ["change", false], ["change", false]], false]);
+});
+
 live("which orders use a word is what the monitor says of its operations", async (laboratory, link) => {
     const letters = [..."zbyridnmpeuthcas"];
     const waits = new Map(recordsOf(await link.ask("json operations-data")).map((record) => [record.get("operation"), record.get("waits") === "yes"]));
