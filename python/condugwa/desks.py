@@ -3,7 +3,6 @@
 import os
 import pathlib
 import tempfile
-import types
 
 from condugwa import library, scripts
 
@@ -75,12 +74,7 @@ class Desk:
     def __enter__(self) -> "Desk":
         return self
 
-    def __exit__(
-        self,
-        kind: "type[BaseException] | None",
-        value: "BaseException | None",
-        trace: "types.TracebackType | None",
-    ) -> None:
+    def __exit__(self, *exception: object) -> None:
         self._session.close()
 
     @property

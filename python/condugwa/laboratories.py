@@ -2,7 +2,6 @@
 
 import dataclasses
 import html
-import types
 
 from condugwa import accounts, library, optima, panels, profiles, refusals, scripts
 
@@ -54,12 +53,7 @@ class Laboratory:
     def __enter__(self) -> "Laboratory":
         return self
 
-    def __exit__(
-        self,
-        kind: "type[BaseException] | None",
-        value: "BaseException | None",
-        trace: "types.TracebackType | None",
-    ) -> None:
+    def __exit__(self, *exception: object) -> None:
         self.close()
 
     def __repr__(self) -> str:
