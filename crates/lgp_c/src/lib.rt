@@ -9,10 +9,8 @@ ghost use Rattle.lgp_desk.specs.Desk.{closing_text};
 ghost use Rattle.std.specs.Global.{Global};
 
 use lgp_call::{Outcome, Session, refuse, run_into, source_into};
-use lgp_parts::BoxParts;
 use slot::Slot;
 use std::alloc::Global;
-use std::mem;
 
 pub mod slot;
 
@@ -51,14 +49,14 @@ pub extern "C" fn lgp_source(
 pub extern "C" fn lgp_open(alloc: Global, session: &mut Slot) -> u32
     ensures { IsOpened session.old.held session.new.held result }
 {
-    match mem::replace(session, Slot::empty(alloc)).into_parts() {
-        Some(parts) => {
-            *session = Slot::of(parts);
+    match session.take(alloc) {
+        Some(whole) => {
+            session.put(whole);
             4
         }
         None => match Session::boxed(alloc, alloc) {
             Ok(whole) => {
-                *session = Slot::of(BoxParts::of(whole));
+                session.put(whole);
                 0
             }
             Err(_) => 3,
@@ -81,13 +79,12 @@ pub extern "C" fn lgp_answer(
     ensures { IsDone (λ state. after_line state line.now) session.old.held session.new.held
         room.old room.new outcome.new result }
 {
-    let Some(parts) = mem::replace(session, Slot::empty(alloc)).into_parts() else {
+    let Some(mut whole) = session.take(alloc) else {
         return refuse(outcome, 5);
     };
-    let mut whole = parts.into_box();
     let status = whole.answer_into(line, room, outcome);
     if status < 2 {
-        *session = Slot::of(BoxParts::of(whole));
+        session.put(whole);
     }
     status
 }
@@ -104,12 +101,11 @@ pub extern "C" fn lgp_reply(
 ) -> u32
     ensures { IsRepeated session.old.held session.new.held room.old room.new outcome.new result }
 {
-    let Some(parts) = mem::replace(session, Slot::empty(alloc)).into_parts() else {
+    let Some(whole) = session.take(alloc) else {
         return refuse(outcome, 5);
     };
-    let whole = parts.into_box();
     let status = whole.give_reply(room, outcome);
-    *session = Slot::of(BoxParts::of(whole));
+    session.put(whole);
     status
 }
 
@@ -126,8 +122,8 @@ pub extern "C" fn lgp_close(
     ensures { IsClosed closing_reply session.old.held session.new.held
         room.old room.new outcome.new result }
 {
-    match mem::replace(session, Slot::empty(alloc)).into_parts() {
-        Some(parts) => Box::into_inner(parts.into_box()).close_into(room, outcome),
+    match session.take(alloc) {
+        Some(whole) => Box::into_inner(whole).close_into(room, outcome),
         None => refuse(outcome, 5),
     }
 }
@@ -147,13 +143,12 @@ pub extern "C" fn lgp_tell(
     ensures { IsDone (λ state. after_told state what text.now) session.old.held session.new.held
         room.old room.new outcome.new result }
 {
-    let Some(parts) = mem::replace(session, Slot::empty(alloc)).into_parts() else {
+    let Some(mut whole) = session.take(alloc) else {
         return refuse(outcome, 5);
     };
-    let mut whole = parts.into_box();
     let status = whole.tell_into(what, text, room, outcome);
     if status < 2 {
-        *session = Slot::of(BoxParts::of(whole));
+        session.put(whole);
     }
     status
 }
@@ -170,13 +165,12 @@ pub extern "C" fn lgp_show(
     ensures { IsDone (λ state. after_shown state what) session.old.held session.new.held
         room.old room.new outcome.new result }
 {
-    let Some(parts) = mem::replace(session, Slot::empty(alloc)).into_parts() else {
+    let Some(mut whole) = session.take(alloc) else {
         return refuse(outcome, 5);
     };
-    let mut whole = parts.into_box();
     let status = whole.show_into(what, room, outcome);
     if status < 2 {
-        *session = Slot::of(BoxParts::of(whole));
+        session.put(whole);
     }
     status
 }
@@ -186,12 +180,11 @@ pub extern "C" fn lgp_show(
 pub extern "C" fn lgp_wish(alloc: Global, session: &mut Slot) -> u32
     ensures { IsWishing session.old.held session.new.held result }
 {
-    let Some(parts) = mem::replace(session, Slot::empty(alloc)).into_parts() else {
+    let Some(whole) = session.take(alloc) else {
         return 5;
     };
-    let whole = parts.into_box();
     let wish = whole.wish_number();
-    *session = Slot::of(BoxParts::of(whole));
+    session.put(whole);
     wish
 }
 
@@ -200,12 +193,11 @@ pub extern "C" fn lgp_wish(alloc: Global, session: &mut Slot) -> u32
 pub extern "C" fn lgp_manner(alloc: Global, session: &mut Slot, number: u32) -> u32
     ensures { HasManner number session.old.held session.new.held result }
 {
-    let Some(parts) = mem::replace(session, Slot::empty(alloc)).into_parts() else {
+    let Some(mut whole) = session.take(alloc) else {
         return 5;
     };
-    let mut whole = parts.into_box();
     whole.set_manner(number);
-    *session = Slot::of(BoxParts::of(whole));
+    session.put(whole);
     0
 }
 
@@ -220,8 +212,8 @@ pub extern "C" fn lgp_leave(
     ensures { IsClosed (λ state. closing_text state.seat) session.old.held session.new.held
         room.old room.new outcome.new result }
 {
-    match mem::replace(session, Slot::empty(alloc)).into_parts() {
-        Some(parts) => Box::into_inner(parts.into_box()).leave_into(room, outcome),
+    match session.take(alloc) {
+        Some(whole) => Box::into_inner(whole).leave_into(room, outcome),
         None => refuse(outcome, 5),
     }
 }

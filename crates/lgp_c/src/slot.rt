@@ -8,6 +8,7 @@ use lgp_call::Session;
 use lgp_parts::BoxParts;
 use std::alloc::Global;
 use std::marker::Model;
+use std::mem;
 
 /// A place for a session. In C it is a flag and a pointer, and all zeros while no session is open there.
 ///
@@ -39,7 +40,7 @@ impl Slot {
     }
 
     /// A place where this session is open.
-    pub(crate) fn of(parts: BoxParts<Session<Global>, Global>) -> Slot
+    fn of(parts: BoxParts<Session<Global>, Global>) -> Slot
         ensures { result.held ≡ Some parts.value }
     {
         let BoxParts { at, alloc } = parts;
@@ -51,7 +52,7 @@ impl Slot {
     }
 
     /// The session that is open here, if there is one.
-    pub(crate) fn into_parts(self) -> Option<BoxParts<Session<Global>, Global>>
+    fn into_parts(self) -> Option<BoxParts<Session<Global>, Global>>
         ensures { MatchOption result (self.held ≡ None)
             (λ parts. self.held ≡ Some parts.value) }
     {
@@ -64,5 +65,22 @@ impl Slot {
         } else {
             None
         }
+    }
+
+    /// Takes out the session that is open here, if there is one. Then none is open.
+    pub(crate) fn take(&mut self, alloc: Global) -> Option<Box<Session<Global>, Global>>
+        ensures left { self.new.held ≡ None }
+        ensures taken { MatchOption result (self.old.held ≡ None)
+            (λ whole. self.old.held ≡ Some whole.value) }
+    {
+        let parts = mem::replace(self, Slot::empty(alloc)).into_parts()?;
+        Some(parts.into_box())
+    }
+
+    /// Opens a session where none is open.
+    pub(crate) fn put(&mut self, whole: Box<Session<Global>, Global>)
+        ensures { self.new.held ≡ Some whole.value }
+    {
+        *self = Slot::of(BoxParts::of(whole));
     }
 }

@@ -10,10 +10,8 @@ ghost use Rattle.std.specs.Borrow.{Bor};
 ghost use Rattle.lgp_region.specs.declared.region.Region.{Region};
 
 use lgp_call::{Outcome, refuse, run_into, source_into};
-use lgp_parts::BoxParts;
 use lgp_region::{Memory, Region};
 use slot::Slot;
-use std::mem;
 
 mod session;
 pub mod slot;
@@ -55,14 +53,14 @@ pub extern "C" fn lgp_source_in(
 pub extern "C" fn lgp_open_in(memory: Memory, session: &mut Slot) -> u32
     ensures { IsOpened session.old.held session.new.held result }
 {
-    match mem::replace(session, Slot::empty()).into_parts() {
-        Some(parts) => {
-            *session = Slot::of(parts);
+    match session.take() {
+        Some(whole) => {
+            session.put(whole);
             4
         }
         None => match session::begun(memory) {
-            Ok(parts) => {
-                *session = Slot::of(parts);
+            Ok(whole) => {
+                session.put(whole);
                 0
             }
             Err(_) => 3,
@@ -84,13 +82,12 @@ pub extern "C" fn lgp_answer_in(
     ensures { IsDone (λ state. after_line state line.now) session.old.held session.new.held
         room.old room.new outcome.new result }
 {
-    let Some(parts) = mem::replace(session, Slot::empty()).into_parts() else {
+    let Some(mut whole) = session.take() else {
         return refuse(outcome, 5);
     };
-    let mut whole = parts.into_box();
     let status = whole.answer_into(line, room, outcome);
     if status < 2 {
-        *session = Slot::of(BoxParts::of(whole));
+        session.put(whole);
     }
     status
 }
@@ -102,12 +99,11 @@ pub extern "C" fn lgp_answer_in(
 pub extern "C" fn lgp_reply_in(session: &mut Slot, room: &mut [u8], outcome: &mut Outcome) -> u32
     ensures { IsRepeated session.old.held session.new.held room.old room.new outcome.new result }
 {
-    let Some(parts) = mem::replace(session, Slot::empty()).into_parts() else {
+    let Some(whole) = session.take() else {
         return refuse(outcome, 5);
     };
-    let whole = parts.into_box();
     let status = whole.give_reply(room, outcome);
-    *session = Slot::of(BoxParts::of(whole));
+    session.put(whole);
     status
 }
 
@@ -119,8 +115,8 @@ pub extern "C" fn lgp_close_in(session: &mut Slot, room: &mut [u8], outcome: &mu
     ensures { IsClosed closing_reply session.old.held session.new.held
         room.old room.new outcome.new result }
 {
-    match mem::replace(session, Slot::empty()).into_parts() {
-        Some(parts) => Box::into_inner(parts.into_box()).close_into(room, outcome),
+    match session.take() {
+        Some(whole) => Box::into_inner(whole).close_into(room, outcome),
         None => refuse(outcome, 5),
     }
 }
@@ -139,13 +135,12 @@ pub extern "C" fn lgp_tell_in(
     ensures { IsDone (λ state. after_told state what text.now) session.old.held session.new.held
         room.old room.new outcome.new result }
 {
-    let Some(parts) = mem::replace(session, Slot::empty()).into_parts() else {
+    let Some(mut whole) = session.take() else {
         return refuse(outcome, 5);
     };
-    let mut whole = parts.into_box();
     let status = whole.tell_into(what, text, room, outcome);
     if status < 2 {
-        *session = Slot::of(BoxParts::of(whole));
+        session.put(whole);
     }
     status
 }
@@ -161,13 +156,12 @@ pub extern "C" fn lgp_show_in(
     ensures { IsDone (λ state. after_shown state what) session.old.held session.new.held
         room.old room.new outcome.new result }
 {
-    let Some(parts) = mem::replace(session, Slot::empty()).into_parts() else {
+    let Some(mut whole) = session.take() else {
         return refuse(outcome, 5);
     };
-    let mut whole = parts.into_box();
     let status = whole.show_into(what, room, outcome);
     if status < 2 {
-        *session = Slot::of(BoxParts::of(whole));
+        session.put(whole);
     }
     status
 }
@@ -177,12 +171,11 @@ pub extern "C" fn lgp_show_in(
 pub extern "C" fn lgp_wish_in(session: &mut Slot) -> u32
     ensures { IsWishing session.old.held session.new.held result }
 {
-    let Some(parts) = mem::replace(session, Slot::empty()).into_parts() else {
+    let Some(whole) = session.take() else {
         return 5;
     };
-    let whole = parts.into_box();
     let wish = whole.wish_number();
-    *session = Slot::of(BoxParts::of(whole));
+    session.put(whole);
     wish
 }
 
@@ -191,12 +184,11 @@ pub extern "C" fn lgp_wish_in(session: &mut Slot) -> u32
 pub extern "C" fn lgp_manner_in(session: &mut Slot, number: u32) -> u32
     ensures { HasManner number session.old.held session.new.held result }
 {
-    let Some(parts) = mem::replace(session, Slot::empty()).into_parts() else {
+    let Some(mut whole) = session.take() else {
         return 5;
     };
-    let mut whole = parts.into_box();
     whole.set_manner(number);
-    *session = Slot::of(BoxParts::of(whole));
+    session.put(whole);
     0
 }
 
@@ -206,8 +198,8 @@ pub extern "C" fn lgp_leave_in(session: &mut Slot, room: &mut [u8], outcome: &mu
     ensures { IsClosed (λ state. closing_text state.seat) session.old.held session.new.held
         room.old room.new outcome.new result }
 {
-    match mem::replace(session, Slot::empty()).into_parts() {
-        Some(parts) => Box::into_inner(parts.into_box()).leave_into(room, outcome),
+    match session.take() {
+        Some(whole) => Box::into_inner(whole).leave_into(room, outcome),
         None => refuse(outcome, 5),
     }
 }

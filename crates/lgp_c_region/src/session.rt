@@ -8,12 +8,10 @@ use lgp_region::{Memory, Region};
 use std::alloc::AllocError;
 
 /// A new session in memory that is handed over for good.
-pub(crate) fn begun(
-    memory: Memory,
-) -> Result<BoxParts<Session<&'static Region>, Unfreed>, AllocError>
-    ensures { IfOk result (λ parts. parts.value ≡ opening_session) }
+pub(crate) fn begun(memory: Memory) -> Result<Box<Session<&'static Region>, Unfreed>, AllocError>
+    ensures { IfOk result (λ whole. whole.value ≡ opening_session) }
 {
     let region = Region::lasting(memory)?;
     let whole = Session::boxed(region, region)?;
-    Ok(BoxParts::of(whole).unfreed())
+    Ok(BoxParts::of(whole).unfreed().into_box())
 }

@@ -9,6 +9,7 @@ use lgp_call::Session;
 use lgp_parts::{BoxParts, Unfreed};
 use lgp_region::Region;
 use std::marker::Model;
+use std::mem;
 
 /// A place for a session. In C it is a flag and a pointer, and all zeros while no session is open there.
 #[repr(C)]
@@ -36,7 +37,7 @@ impl Slot {
     }
 
     /// A place where this session is open.
-    pub(crate) fn of(parts: BoxParts<Session<&'static Region>, Unfreed>) -> Slot
+    fn of(parts: BoxParts<Session<&'static Region>, Unfreed>) -> Slot
         ensures { result.held ≡ Some parts.entry.value }
     {
         let BoxParts { at, alloc: _alloc } = parts;
@@ -47,7 +48,7 @@ impl Slot {
     }
 
     /// The session that is open here, if there is one.
-    pub(crate) fn into_parts(self) -> Option<BoxParts<Session<&'static Region>, Unfreed>>
+    fn into_parts(self) -> Option<BoxParts<Session<&'static Region>, Unfreed>>
         ensures { MatchOption result (self.held ≡ None)
             (λ parts. self.held ≡ Some parts.value) }
     {
@@ -60,5 +61,22 @@ impl Slot {
         } else {
             None
         }
+    }
+
+    /// Takes out the session that is open here, if there is one. Then none is open.
+    pub(crate) fn take(&mut self) -> Option<Box<Session<&'static Region>, Unfreed>>
+        ensures left { self.new.held ≡ None }
+        ensures taken { MatchOption result (self.old.held ≡ None)
+            (λ whole. self.old.held ≡ Some whole.value) }
+    {
+        let parts = mem::replace(self, Slot::empty()).into_parts()?;
+        Some(parts.into_box())
+    }
+
+    /// Opens a session where none is open.
+    pub(crate) fn put(&mut self, whole: Box<Session<&'static Region>, Unfreed>)
+        ensures { self.new.held ≡ Some whole.entry.value }
+    {
+        *self = Slot::of(BoxParts::of(whole));
     }
 }
