@@ -36,6 +36,12 @@ export class Driver {
         throw new Error(`waited in vain for ${expression}; told: ${this.told.join(" | ")}`);
     }
 
+    /** Closes the dialog, if there is one: it has left the page only a moment after it was closed. */
+    async closeDialog() {
+        await this.value("document.querySelector('dialog')?.close()");
+        await this.waitFor("document.querySelector('dialog') === null");
+    }
+
     /** Presses what a selector names, as a mouse does. */
     press(selector) {
         return this.value(`document.querySelector(${JSON.stringify(selector)}).click()`);

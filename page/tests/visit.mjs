@@ -714,7 +714,7 @@ async function notLost(browser) {
         await browser.press("#works");
         await browser.waitFor("document.querySelector('.works')");
         const count = await browser.value("document.querySelectorAll('.works li').length");
-        await browser.value("document.querySelector('dialog').close()");
+        await browser.closeDialog();
         return count;
     };
     const kept = await works();

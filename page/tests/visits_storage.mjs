@@ -62,7 +62,7 @@ async function backByList(browser, place = 0) {
 
 /** Leaves what a press may have led to: a dialog, the kiosk, another door. */
 async function backToWork(browser) {
-    await browser.value("document.querySelector('dialog')?.close()");
+    await browser.closeDialog();
     if (await browser.value("document.body.classList.contains('kiosk')")) {
         await browser.value("dispatchKeys()");
         await browser.waitFor("!document.body.classList.contains('kiosk') && document.querySelector('.doors') !== null");
@@ -214,7 +214,7 @@ async function tenWorks(browser, address) {
     await browser.press("#works");
     await browser.waitFor("document.querySelector('.works') !== null");
     assert.equal(await browser.value("document.querySelectorAll('.works li').length"), 10);
-    await browser.value("document.querySelector('dialog').close()");
+    await browser.closeDialog();
     await backByList(browser, 3);
     assert.equal(await valueOf(browser, SOURCE), "; work 8\n z");
 }
@@ -228,7 +228,7 @@ async function backAndForth(browser) {
         await browser.press("#works");
         await browser.waitFor("document.querySelector('.works') !== null");
         const works = await browser.value("document.querySelectorAll('.works li').length");
-        await browser.value("document.querySelector('dialog').close()");
+        await browser.closeDialog();
         return works;
     };
     await browser.press("#step-back");
