@@ -24,6 +24,8 @@ use Rattle.lgp_monitor.specs.declared.verb.Verb.{Verb}
 use Rattle.lgp_monitor.specs.declared.verb.Verb.TheVariants as verbs
 use Rattle.lgp_monitor.specs.declared.form.Mistake.{Mistake}
 use Rattle.lgp_monitor.specs.declared.form.Mistake.TheVariants as mistakes
+use Rattle.lgp_monitor.specs.declared.form.Wrong.{Wrong}
+use Rattle.lgp_monitor.specs.declared.form.Wrong.TheVariants as wrongs
 
 -- ---- forms
 
@@ -148,64 +150,84 @@ takes_numbers word =
     bytes_eq word (codes "=") || bytes_eq word (codes "word") || bytes_eq word (codes "frac")
     || bytes_eq word (codes "int") || bytes_eq word (codes "org") || bytes_eq word (codes "end")
 
--- what is wrong with the operands of `=` or of an operation without an address, or else the form
-abbrev pub numbers_reason : List ℕ → List ℕ → List ℕ → List ℕ
-numbers_reason form operation operands =
-    if bytes_eq operation (codes "=") && not (has_no_word operands)
-    then said_of (first_word operands) mistakes.Whole
-    else (if bytes_eq operation (codes "int") && has_no_word (after_word operands)
-    then said_of operation mistakes.Point else form)
+-- what is wrong: there is no such command, a word of the line, or all that comes after the name of
+-- its command
+pub data Flaw : Type 0 where
+  NoCommand : Flaw
+  BadWord : List ℕ → Mistake → Flaw
+  Operands : Verb → Flaw
 
-module _ (names : List (List ℕ × ℕ)) (form : List ℕ) where
+abbrev pub wrong_seen : Wrong → Flaw
+wrong_seen wrongs.NoCommand = NoCommand
+wrong_seen (wrongs.Word word mistake) = BadWord word.now mistake
+wrong_seen (wrongs.Operands verb) = Operands verb
+
+-- of the operands of `=` or of an operation without an address
+abbrev pub numbers_flaw : Verb → List ℕ → List ℕ → Flaw
+numbers_flaw verb operation operands =
+    if bytes_eq operation (codes "=") && not (has_no_word operands)
+    then BadWord (first_word operands) mistakes.Whole
+    else (if bytes_eq operation (codes "int") && has_no_word (after_word operands)
+    then BadWord operation mistakes.Point else Operands verb)
+
+module _ (names : List (List ℕ × ℕ)) (verb : Verb) where
   -- of a first operand that should be an address, which `*` may name, and where it is one, of what
   -- comes after it
-  abbrev pub by_address : List ℕ → Result ℕ OperandFault → (ℕ → List ℕ) → List ℕ
+  abbrev pub by_address : List ℕ → Result ℕ OperandFault → (ℕ → Flaw) → Flaw
   by_address operand (Ok address) more = more address
-  by_address operand (Err fault) more = said_of operand (address_mistake fault operand)
+  by_address operand (Err fault) more = BadWord operand (address_mistake fault operand)
 
-  abbrev pub operand_reason : ℕ → List ℕ → (ℕ → List ℕ) → List ℕ
-  operand_reason place operands more =
-      if has_no_word operands then form
+  unfoldable pub operand_flaw : ℕ → List ℕ → (ℕ → Flaw) → Flaw
+  operand_flaw place operands more =
+      if has_no_word operands then Operands verb
       else by_address (first_word operands) (address_operand names place (first_word operands)) more
 
   -- of the value of `put`
-  abbrev pub value_reason : List ℕ → ℕ → List ℕ
-  value_reason value place =
-      if has_no_word value then form
+  abbrev pub value_flaw : List ℕ → ℕ → Flaw
+  value_flaw value place =
+      if has_no_word value then Operands verb
       else (if takes_place (first_word value)
-      then operand_reason place (after_word value) (λ address. form)
+      then operand_flaw place (after_word value) (λ address. Operands verb)
       else (if takes_numbers (first_word value)
-      then numbers_reason form (first_word value) (after_word value)
-      else said_of (first_word value) (value_mistake (first_word value))))
+      then numbers_flaw verb (first_word value) (after_word value)
+      else BadWord (first_word value) (value_mistake (first_word value))))
 
   -- of an address that comes after a number
-  abbrev pub second_reason : ℕ → List ℕ → List ℕ
-  second_reason place operands =
+  abbrev pub second_flaw : ℕ → List ℕ → Flaw
+  second_flaw place operands =
       if is_some (lone_number (first_word operands))
-      then operand_reason place (after_word operands) (λ address. form) else form
+      then operand_flaw place (after_word operands) (λ address. Operands verb) else Operands verb
 
--- what is said of a line whose command is known: the first word that is wrong, or else the form
-unfoldable pub verb_reason : List (List ℕ × ℕ) → ℕ → List ℕ → Verb → List ℕ
-verb_reason names counter line verbs.Word =
-    let form = first_word line ++ operands_form verbs.Word in
-    operand_reason names form counter (after_word line)
-    (value_reason names form (after_word (after_word line)))
-verb_reason names counter line (verbs.NumberAddress by) =
-    let form = first_word line ++ operands_form (verbs.NumberAddress by) in
-    second_reason names form counter (after_word line)
-verb_reason names counter line verb =
-    let form = first_word line ++ operands_form verb in
-    if takes_address verb
-    then operand_reason names form counter (after_word line) (λ address. form) else form
+  -- of an address that comes first, where one does
+  unfoldable pub address_flaw : ℕ → List ℕ → Flaw
+  address_flaw place operands =
+      if takes_address verb then operand_flaw place operands (λ address. Operands verb)
+      else Operands verb
+
+-- of a line whose command is known, by what comes after its name
+unfoldable pub verb_flaw : List (List ℕ × ℕ) → ℕ → List ℕ → Verb → Flaw
+verb_flaw names counter operands verbs.Word =
+    operand_flaw names verbs.Word counter operands (value_flaw names verbs.Word (after_word operands))
+verb_flaw names counter operands (verbs.NumberAddress by) =
+    second_flaw names (verbs.NumberAddress by) counter operands
+verb_flaw names counter operands verb = address_flaw names verb counter operands
 
 -- and of one whose command is not known
-abbrev pub no_command_reason : List ℕ → List ℕ
-no_command_reason word =
-    if has_capital word then said_of word mistakes.Capital
-    else codes "there is no such command; help lists them all"
+abbrev pub no_command_flaw : List ℕ → Flaw
+no_command_flaw word = if has_capital word then BadWord word mistakes.Capital else NoCommand
+
+unfoldable pub flaw_of : List (List ℕ × ℕ) → ℕ → List ℕ → Flaw
+flaw_of names counter line =
+    option_map_or (verb_flaw names counter (after_word line)) (named verb_names (first_word line))
+    (no_command_flaw (first_word line))
+
+-- what is said of it, with the name of the command
+abbrev pub flaw_text : List ℕ → Flaw → List ℕ
+flaw_text name NoCommand = codes "there is no such command; help lists them all"
+flaw_text name (BadWord word mistake) = said_of word mistake
+flaw_text name (Operands verb) = name ++ operands_form verb
 
 unfoldable pub misformed_text : List (List ℕ × ℕ) → ℕ → List ℕ → List ℕ
 misformed_text names counter line =
     codes "? 1 Form: "
-    ++ (option_map_or (verb_reason names counter line) (named verb_names (first_word line))
-    (no_command_reason (first_word line)) ++ codes "\n")
+    ++ (flaw_text (first_word line) (flaw_of names counter line) ++ codes "\n")

@@ -6,7 +6,7 @@ ghost use Rattle.lgp_stream.specs.LineWords.{after_word, first_word, has_no_word
 ghost use Rattle.lgp_assembler.specs.AddressOperands.{address_operand};
 ghost use Rattle.lgp_word.specs.Digits.{word_of_digits};
 ghost use Rattle.lgp_text.specs.NamedValues.{named, pairs_of};
-ghost use Rattle.lgp_monitor.specs.Forms.{address_mistake, are_digits, are_word_digits, command_line, commands_text, form_line, has_capital, has_l_or_o, help_text, is_beyond_63, is_order_with_digits, is_word_digit, misformed_address, misformed_text, meant_text, mistake_text, no_command_reason, number_mistake, numbers_reason, operand_reason, said_of, second_reason, takes_numbers, takes_place, value_mistake, value_reason, verb_reason};
+ghost use Rattle.lgp_monitor.specs.Forms.{Operands, address_flaw, address_mistake, are_digits, are_word_digits, command_line, commands_text, flaw_of, flaw_text, form_line, has_capital, has_l_or_o, help_text, is_beyond_63, is_order_with_digits, is_word_digit, misformed_address, misformed_text, meant_text, mistake_text, no_command_flaw, number_mistake, numbers_flaw, operand_flaw, said_of, second_flaw, takes_numbers, takes_place, value_flaw, value_mistake, verb_flaw, wrong_seen};
 ghost use Rattle.lgp_monitor.specs.Verbs.{operands_form, operands_kind, verb_names};
 
 use crate::verb::{
@@ -14,7 +14,7 @@ use crate::verb::{
 };
 use lgp_assembler::{Name, OperandFault, Symbols, address_operand};
 use lgp_script::lone_number;
-use lgp_stream::{has_no_word, split_word};
+use lgp_stream::{Split, has_no_word, split_word};
 use lgp_text::{Named, Piece, push_pieces};
 use lgp_word::{Address, Op, read_decimal, read_digits};
 use std::alloc::{AllocError, Allocator};
@@ -351,174 +351,173 @@ pub(crate) fn push_commands<A: Allocator>(text: &mut Vec<u8, A>) -> Result<(), A
     push_command_lines(text, named_verbs())
 }
 
-/// A command whose line is in no form, with what its addresses may name: the labels of the last source, and the counter.
+/// Why a line is in no command's form.
 #[derive(Clone, Copy)]
-struct Said<'a> {
-    names: &'a [(Name, u16)],
-    name: &'a [u8],
-    verb: Verb,
+pub enum Wrong<'a> {
+    /// There is no such command.
+    NoCommand,
+    /// A word of it is wrong.
+    Word(&'a [u8], Mistake),
+    /// Its operands are not in the form of its command.
+    Operands(Verb),
 }
 
-/// Appends what is wrong with a first operand that should be an address, or the command's form.
-fn push_operand_reason<A: Allocator>(
-    text: &mut Vec<u8, A>,
-    said: &Said<'_>,
+/// What is wrong with a first operand that should be an address, or with the operands.
+#[tactic(auto, unfolding(crate::specs::Forms::operand_flaw))]
+fn wrong_operand<'a>(
+    names: &[(Name, u16)],
+    verb: Verb,
     place: Address,
-    operands: &[u8],
-) -> Result<(), AllocError>
-    ensures { OnOk result (text.new.items ≡ text.old.items
-        ++ operand_reason said.now.names.now (said.now.name.now ++ operands_form said.now.verb)
-        place operands.now (λ address. said.now.name.now ++ operands_form said.now.verb)) }
+    operands: &'a [u8],
+) -> Wrong<'a>
+    ensures { wrong_seen result
+        ≡ operand_flaw names.now verb place operands.now (λ address. Operands verb) }
 {
     if has_no_word(operands) {
-        return push_form(text, said.name, said.verb);
+        return Wrong::Operands(verb);
     }
     let operand = split_word(operands).word;
-    let names = Symbols { names: said.names };
-    match address_operand(&names, u64::from(place.number()), operand) {
-        Ok(_) => push_form(text, said.name, said.verb),
-        Err(fault) => push_mistake(text, operand, address_mistake(fault, operand)),
+    match address_operand(&Symbols { names }, u64::from(place.number()), operand) {
+        Ok(_) => Wrong::Operands(verb),
+        Err(fault) => Wrong::Word(operand, address_mistake(fault, operand)),
     }
 }
 
-/// Appends what is wrong with the value of `put`, or its form.
-fn push_value_reason<A: Allocator>(
-    text: &mut Vec<u8, A>,
-    said: &Said<'_>,
-    place: Address,
-    value: &[u8],
-) -> Result<(), AllocError>
-    ensures { OnOk result (text.new.items ≡ text.old.items
-        ++ value_reason said.now.names.now (said.now.name.now ++ operands_form said.now.verb)
-        value.now place) }
-{
-    if has_no_word(value) {
-        return push_form(text, said.name, said.verb);
-    }
-    let split = split_word(value);
-    if takes_place(split.word) {
-        return push_operand_reason(text, said, place, split.rest);
-    }
-    if takes_numbers(split.word) {
-        return push_numbers_reason(text, said, split.word, split.rest);
-    }
-    push_mistake(text, split.word, value_mistake(split.word))
-}
-
-/// Appends what is wrong with the operands of `=` or of an operation without an address, or the command's form.
-fn push_numbers_reason<A: Allocator>(
-    text: &mut Vec<u8, A>,
-    said: &Said<'_>,
-    operation: &[u8],
-    operands: &[u8],
-) -> Result<(), AllocError>
-    ensures { OnOk result (text.new.items ≡ text.old.items
-        ++ numbers_reason (said.now.name.now ++ operands_form said.now.verb)
-        operation.now operands.now) }
+/// What is wrong with the operands of `=` or of an operation without an address.
+fn wrong_numbers<'a>(verb: Verb, operation: &'a [u8], operands: &'a [u8]) -> Wrong<'a>
+    ensures { wrong_seen result ≡ numbers_flaw verb operation.now operands.now }
 {
     let first = split_word(operands);
     if operation == b"=".as_slice() && !has_no_word(operands) {
-        return push_mistake(text, first.word, Mistake::Whole);
+        return Wrong::Word(first.word, Mistake::Whole);
     }
     if operation == b"int".as_slice() && has_no_word(first.rest) {
-        return push_mistake(text, operation, Mistake::Point);
+        return Wrong::Word(operation, Mistake::Point);
     }
-    push_form(text, said.name, said.verb)
+    Wrong::Operands(verb)
 }
 
-/// Appends what is wrong with the operands of `put`, or its form.
-fn push_put_reason<A: Allocator>(
-    text: &mut Vec<u8, A>,
-    said: &Said<'_>,
-    counter: Address,
-    operands: &[u8],
-) -> Result<(), AllocError>
-    ensures { OnOk result (text.new.items ≡ text.old.items
-        ++ operand_reason said.now.names.now (said.now.name.now ++ operands_form said.now.verb)
-        counter operands.now
-        (value_reason said.now.names.now (said.now.name.now ++ operands_form said.now.verb)
-        (after_word operands.now))) }
+/// What is wrong with the value of `put`.
+fn wrong_value<'a>(names: &[(Name, u16)], verb: Verb, place: Address, value: &'a [u8]) -> Wrong<'a>
+    ensures { wrong_seen result ≡ value_flaw names.now verb value.now place }
+{
+    if has_no_word(value) {
+        return Wrong::Operands(verb);
+    }
+    let Split { word, rest } = split_word(value);
+    if takes_place(word) {
+        return wrong_operand(names, verb, place, rest);
+    }
+    if takes_numbers(word) {
+        return wrong_numbers(verb, word, rest);
+    }
+    Wrong::Word(word, value_mistake(word))
+}
+
+/// What is wrong with the operands of `put`.
+#[tactic(auto, unfolding(crate::specs::Forms::operand_flaw))]
+fn wrong_put<'a>(names: &[(Name, u16)], counter: Address, operands: &'a [u8]) -> Wrong<'a>
+    ensures { wrong_seen result ≡ operand_flaw names.now Verb.Word counter operands.now
+        (value_flaw names.now Verb.Word (after_word operands.now)) }
 {
     if has_no_word(operands) {
-        return push_form(text, said.name, said.verb);
+        return Wrong::Operands(Verb::Word);
     }
-    let split = split_word(operands);
-    let names = Symbols { names: said.names };
-    match address_operand(&names, u64::from(counter.number()), split.word) {
-        Ok(place) => push_value_reason(text, said, place, split.rest),
-        Err(fault) => push_mistake(text, split.word, address_mistake(fault, split.word)),
+    let Split { word, rest } = split_word(operands);
+    match address_operand(&Symbols { names }, u64::from(counter.number()), word) {
+        Ok(place) => wrong_value(names, Verb::Word, place, rest),
+        Err(fault) => Wrong::Word(word, address_mistake(fault, word)),
     }
 }
 
-/// Appends what is wrong with an address after a number, or the command's form.
-fn push_second_reason<A: Allocator>(
-    text: &mut Vec<u8, A>,
-    said: &Said<'_>,
+/// What is wrong with an address after a number.
+fn wrong_second<'a>(
+    names: &[(Name, u16)],
+    verb: Verb,
     counter: Address,
-    operands: &[u8],
-) -> Result<(), AllocError>
-    ensures { OnOk result (text.new.items ≡ text.old.items
-        ++ second_reason said.now.names.now
-        (said.now.name.now ++ operands_form said.now.verb) counter operands.now) }
+    operands: &'a [u8],
+) -> Wrong<'a>
+    ensures { wrong_seen result ≡ second_flaw names.now verb counter operands.now }
 {
-    let number = split_word(operands);
-    match lone_number(number.word) {
-        Some(_) => push_operand_reason(text, said, counter, number.rest),
-        None => push_form(text, said.name, said.verb),
+    let Split { word, rest } = split_word(operands);
+    match lone_number(word) {
+        Some(_) => wrong_operand(names, verb, counter, rest),
+        None => Wrong::Operands(verb),
     }
 }
 
-/// Appends why a line of a known command is in no form.
-#[tactic(auto, unfolding(crate::specs::Forms::verb_reason))]
-fn push_verb_reason<A: Allocator>(
-    text: &mut Vec<u8, A>,
+/// What is wrong with the operands of a command that may take an address first.
+#[tactic(auto, unfolding(crate::specs::Forms::address_flaw))]
+fn wrong_address<'a>(
+    names: &[(Name, u16)],
+    verb: Verb,
+    counter: Address,
+    operands: &'a [u8],
+) -> Wrong<'a>
+    ensures { wrong_seen result ≡ address_flaw names.now verb counter operands.now }
+{
+    if takes_address(verb) {
+        wrong_operand(names, verb, counter, operands)
+    } else {
+        Wrong::Operands(verb)
+    }
+}
+
+/// What is wrong with the operands of a command.
+#[tactic(auto, unfolding(crate::specs::Forms::verb_flaw))]
+fn wrong_operands<'a>(
     names: &[(Name, u16)],
     counter: Address,
-    line: &[u8],
+    operands: &'a [u8],
     verb: Verb,
-) -> Result<(), AllocError>
-    ensures { OnOk result (text.new.items
-        ≡ text.old.items ++ verb_reason names.now counter line.now verb) }
+) -> Wrong<'a>
+    ensures { wrong_seen result ≡ verb_flaw names.now counter operands.now verb }
 {
-    let split = split_word(line);
-    let said = Said {
-        names,
-        name: split.word,
-        verb,
-    };
     match verb {
-        Verb::Word => push_put_reason(text, &said, counter, split.rest),
-        Verb::NumberAddress(_) => push_second_reason(text, &said, counter, split.rest),
-        _ if takes_address(verb) => push_operand_reason(text, &said, counter, split.rest),
-        _ => push_form(text, split.word, verb),
+        Verb::Word => wrong_put(names, counter, operands),
+        Verb::NumberAddress(_) => wrong_second(names, verb, counter, operands),
+        _ => wrong_address(names, verb, counter, operands),
     }
 }
 
-/// Appends why a line is none of a known command.
-fn push_no_command<A: Allocator>(text: &mut Vec<u8, A>, word: &[u8]) -> Result<(), AllocError>
-    ensures { OnOk result (text.new.items ≡ text.old.items ++ no_command_reason word.now) }
+/// What is wrong with a word that is no command's name.
+fn wrong_name(word: &[u8]) -> Wrong<'_>
+    ensures { wrong_seen result ≡ no_command_flaw word.now }
 {
     if has_capital(word) {
-        return push_mistake(text, word, Mistake::Capital);
+        Wrong::Word(word, Mistake::Capital)
+    } else {
+        Wrong::NoCommand
     }
-    text.extend_from_slice(b"there is no such command; help lists them all")
 }
 
-/// Appends why a line is in no command's form.
-fn push_reason<A: Allocator>(
-    text: &mut Vec<u8, A>,
-    names: &[(Name, u16)],
-    counter: Address,
-    line: &[u8],
-) -> Result<(), AllocError>
-    ensures { OnOk result (text.new.items ≡ text.old.items
-        ++ option_map_or (verb_reason names.now counter line.now)
-        (named verb_names (first_word line.now)) (no_command_reason (first_word line.now))) }
+/// What is wrong with a line that is in no command's form.
+#[tactic(auto, unfolding(crate::specs::Forms::flaw_of))]
+fn wrong_in<'a>(names: &[(Name, u16)], counter: Address, line: &'a [u8]) -> Wrong<'a>
+    ensures { wrong_seen result ≡ flaw_of names.now counter line.now }
 {
-    let word = split_word(line).word;
+    let Split { word, rest } = split_word(line);
     match verb_named(word) {
-        Some(verb) => push_verb_reason(text, names, counter, line, verb),
-        None => push_no_command(text, word),
+        Some(verb) => wrong_operands(names, counter, rest, verb),
+        None => wrong_name(word),
+    }
+}
+
+/// Appends what is said of it, with the name of the command.
+fn push_wrong<A: Allocator>(
+    text: &mut Vec<u8, A>,
+    name: &[u8],
+    wrong: &Wrong<'_>,
+) -> Result<(), AllocError>
+    ensures { OnOk result (text.new.items
+        ≡ text.old.items ++ flaw_text name.now (wrong_seen wrong.now)) }
+{
+    match wrong {
+        Wrong::NoCommand => text.extend_from_slice(
+            b"there is no such command; help lists them all",
+        ),
+        Wrong::Word(word, mistake) => push_mistake(text, word, *mistake),
+        Wrong::Operands(verb) => push_form(text, name, *verb),
     }
 }
 
@@ -534,6 +533,6 @@ pub(crate) fn push_misformed<A: Allocator>(
         ≡ text.old.items ++ misformed_text names.now counter line.now) }
 {
     text.extend_from_slice(b"? 1 Form: ")?;
-    push_reason(text, names, counter, line)?;
+    push_wrong(text, split_word(line).word, &wrong_in(names, counter, line))?;
     text.extend_from_slice(b"\n")
 }
