@@ -193,7 +193,8 @@ def emacs(folder):
 def main():
     differ = 0
     for name, make in (("neovim", neovim), ("emacs", emacs)):
-        with tempfile.TemporaryDirectory() as place:
+        # an editor may still write there when its terminal has ended
+        with tempfile.TemporaryDirectory(ignore_cleanup_errors=True) as place:
             folder = pathlib.Path(place)
             (folder / "sum.source").write_text(SOURCE)
             os.environ.update(HOME=place, XDG_STATE_HOME=place, XDG_CACHE_HOME=place, XDG_DATA_HOME=place)

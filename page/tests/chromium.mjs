@@ -1,6 +1,6 @@
 // Drives Chromium over its debugging pipe: messages are JSON with a zero after each.
 import { spawn } from "node:child_process";
-import { mkdtempSync, rmSync } from "node:fs";
+import { mkdtempSync } from "node:fs";
 import { tmpdir } from "node:os";
 import { join } from "node:path";
 import { Driver } from "./driver.mjs";
@@ -139,6 +139,6 @@ export class Chromium extends Driver {
         const ended = new Promise((resolve) => this.#process.once("exit", resolve));
         await this.#ask("Browser.close").catch(() => {});
         await ended;
-        rmSync(this.#folder, { recursive: true, force: true, maxRetries: 5, retryDelay: 100 });
+        this.remove(this.#folder);
     }
 }

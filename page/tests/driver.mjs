@@ -1,5 +1,5 @@
 // What the drivers of all engines share: the calls by which visits look at the page, over the few that each engine has its own way for.
-import { writeFileSync } from "node:fs";
+import { rmSync, writeFileSync } from "node:fs";
 
 const KEYS = { Tab: "\ue004", Enter: "\ue007", Escape: "\ue00c", Shift: "\ue008", Control: "\ue009", PageUp: "\ue00e", PageDown: "\ue00f", End: "\ue010", Home: "\ue011", ArrowLeft: "\ue012", ArrowUp: "\ue013", ArrowRight: "\ue014", ArrowDown: "\ue015", F1: "\ue031", F5: "\ue035", F8: "\ue038", F9: "\ue039", F10: "\ue03a" };
 
@@ -34,6 +34,15 @@ export class Driver {
             await pause(30);
         }
         throw new Error(`waited in vain for ${expression}; told: ${this.told.join(" | ")}`);
+    }
+
+    /** Removes the folder of an engine that has ended. Its processes may write there a moment longer: then it stays, since that says nothing of the page. */
+    remove(folder) {
+        try {
+            rmSync(folder, { recursive: true, force: true, maxRetries: 5, retryDelay: 100 });
+        } catch ({ message }) {
+            console.error(`not removed: ${message}`);
+        }
     }
 
     /** Closes the dialog, if there is one: it has left the page only a moment after it was closed. */

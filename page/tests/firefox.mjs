@@ -1,6 +1,6 @@
 // Drives Firefox over WebDriver BiDi, with the calls of driver.mjs.
 import { spawn } from "node:child_process";
-import { mkdtempSync, rmSync, writeFileSync } from "node:fs";
+import { mkdtempSync, writeFileSync } from "node:fs";
 import { tmpdir } from "node:os";
 import { join } from "node:path";
 import { Driver } from "./driver.mjs";
@@ -91,6 +91,6 @@ export class Firefox extends Driver {
         const ended = new Promise((resolve) => this.#process.once("exit", resolve));
         this.#ask("browser.close").catch(() => {});
         await ended;
-        rmSync(this.#folder, { recursive: true, force: true, maxRetries: 5, retryDelay: 100 });
+        this.remove(this.#folder);
     }
 }

@@ -21,7 +21,7 @@ function toldBy(script, server, text) {
     const { stderr } = spawnSync("emacs", ["--batch", "-L", join(editors, "emacs"), "-l", join(editors, "tests/clients", script)], { env });
     assert.ok(existsSync(into), stderr.toString());
     const told = Object.fromEntries(readFileSync(into, "utf8").trim().split("\n").map((row) => JSON.parse(row)));
-    rmSync(folder, { recursive: true });
+    rmSync(folder, { recursive: true, force: true, maxRetries: 20, retryDelay: 100 });
     assert.deepEqual([told.never, told.failed], [undefined, undefined], stderr.toString());
     return told;
 }
@@ -49,6 +49,6 @@ test("lgp-mode is compiled without a warning", { skip: !hasEmacs }, () => {
     const folder = mkdtempSync(join(tmpdir(), "emacs-"));
     copyFileSync(join(editors, "emacs/lgp-mode.el"), join(folder, "lgp-mode.el"));
     const { status, stderr } = spawnSync("emacs", ["--batch", "--eval", "(setq byte-compile-error-on-warn t)", "-f", "batch-byte-compile", join(folder, "lgp-mode.el")]);
-    rmSync(folder, { recursive: true });
+    rmSync(folder, { recursive: true, force: true, maxRetries: 20, retryDelay: 100 });
     assert.equal(status, 0, stderr.toString());
 });

@@ -18,7 +18,7 @@ test("faults, hover, definition, completion, rename, columns and a sign that is 
     const env = { ...process.env, NEOVIM_INTO: into, XDG_STATE_HOME: folder, XDG_CACHE_HOME: folder, XDG_DATA_HOME: folder };
     spawnSync("nvim", ["--headless", "-u", settings, "-i", "NONE", source, "-c", `luafile ${join(editors, "tests/clients/neovim.lua")}`], { env, stdio: "ignore" });
     const told = Object.fromEntries(readFileSync(into, "utf8").trim().split("\n").map((row) => JSON.parse(row)));
-    rmSync(folder, { recursive: true });
+    rmSync(folder, { recursive: true, force: true, maxRetries: 20, retryDelay: 100 });
     assert.deepEqual([told.never, told.failed], [undefined, undefined]);
     assert.deepEqual(told.faults, [["UnknownName", 0, 10, 13, "no line has this label; perhaps two is meant"]]);
     assert.match(told.hover, /^\*\*b\*\* ttss, LABEL or \*\n\nbrings the word into the accumulator/);

@@ -405,5 +405,5 @@ def main():
     print(f"terminal: {len(checks)} well")
 
 
-with tempfile.TemporaryDirectory() as SCRATCH:
+with tempfile.TemporaryDirectory(ignore_cleanup_errors=True) as SCRATCH:
     sys.exit(main())
