@@ -121,7 +121,7 @@ free-operated limit lab = (free-run limit, free-operated_on limit limit (replied
 
 free-meaning : (recorded : Recorded LabState) (asked : Entry) (line : List ℕ) → IsLine line → AreLines (meaning_of recorded asked (kept_of line))
 free-meaning recorded entry.Itself line free = (free-stand_in _ free, tt)
-free-meaning recorded entry.Misformed line free = (free-stand_in _ free, tt)
+free-meaning recorded (entry.Misformed part wrong) line free = (free-stand_in _ free, tt)
 free-meaning recorded (entry.Script command) line free = (one_line command _ (free-text line free), tt)
 free-meaning recorded (entry.Go address) line free = free-go _
 free-meaning recorded (entry.Reported telling limit) line free = (free-run limit, tt)

@@ -1,9 +1,9 @@
 -- Part of the public promise: what a typed line asks for.
-use Rattle.std.specs.Prelude.{ℕ, ◌||◌, ◌&&◌, Bool, true, false, not, if◌then◌else◌, Option, Some, None}
-use Rattle.std.specs.Prelude.{List, codes, pos, ◌*ℤ◌, option_and_then, option_map}
-use Rattle.std.specs.Prelude.{unwrap_or}
-use Rattle.std.specs.Option.{option_map_or, option_or}
-use Rattle.std.specs.Result.{result_ok}
+use Rattle.std.specs.Prelude.{ℕ, ◌||◌, ◌&&◌, Bool, true, false, not, if◌then◌else◌}
+use Rattle.std.specs.Prelude.{Option, Some, None, option_and_then, option_map, unwrap_or}
+use Rattle.std.specs.Prelude.{Result, Ok, Err, is_some, List, codes, pos, ◌*ℤ◌}
+use Rattle.std.specs.Option.{ok_or, option_map_or, option_or}
+use Rattle.std.specs.Result.{result_err, result_map_both, result_ok}
 use Rattle.std.specs.Str.{bytes_eq}
 use Rattle.lgp_word.specs.Digits.{word_of_digits}
 use Rattle.lgp_fraction.specs.Arithmetic.{low_bits}
@@ -19,7 +19,10 @@ use Rattle.lgp_command.specs.declared.command.Command.TheVariants as commands
 use Rattle.lgp_fields.specs.declared.records.RecordForm.{RecordForm}
 use Rattle.lgp_fields.specs.declared.records.RecordForm.TheVariants.{Lines, Objects}
 use Rattle.lgp_monitor.specs.Scaled.{point_of}
+use Rattle.lgp_monitor.specs.Mistakes.{address_mistake, takes_numbers, takes_place, value_mistake}
 use Rattle.lgp_monitor.specs.Verbs.{verb_names}
+use Rattle.lgp_monitor.specs.Wrongs.{name_wrong}
+use Rattle.lgp_monitor.specs.declared.data_question.DataQuestion.{DataQuestion}
 use Rattle.lgp_monitor.specs.declared.data_question.DataQuestion.TheVariants as data_questions
 use Rattle.lgp_monitor.specs.Telling.{form_of}
 use Rattle.lgp_monitor.specs.declared.question.Question.{Question}
@@ -38,8 +41,26 @@ use Rattle.lgp_monitor.specs.declared.verb.RangeCommand.{RangeCommand}
 use Rattle.lgp_monitor.specs.declared.verb.RangeCommand.TheVariants as range_commands
 use Rattle.lgp_monitor.specs.declared.verb.Verb.{Verb}
 use Rattle.lgp_monitor.specs.declared.verb.Verb.TheVariants as verbs
+use Rattle.lgp_monitor.specs.declared.mistake.Mistake.TheVariants as mistakes
+use Rattle.lgp_monitor.specs.declared.wrong.LineWord.{LineWord}
+use Rattle.lgp_monitor.specs.declared.wrong.LineWord.TheVariants.{First, Second, Third}
+use Rattle.lgp_monitor.specs.declared.wrong.Part.TheVariants as parts
+use Rattle.lgp_monitor.specs.declared.wrong.Wrong.{Wrong}
+use Rattle.lgp_monitor.specs.declared.wrong.Wrong.TheVariants.{Operands}
+use Rattle.lgp_monitor.specs.declared.wrong.Wrong.TheVariants as wrongs
 use Rattle.lgp_monitor.specs.declared.entry.Entry.{Entry}
 use Rattle.lgp_monitor.specs.declared.entry.Entry.TheVariants as entry
+
+-- ---- what is read, or what is wrong
+
+-- what comes of what was read; what is wrong stays so
+abbrev pub and_then : {T U : Type 0} → (T → Result U Wrong) → Result T Wrong → Result U Wrong
+and_then next (Ok read) = next read
+and_then next (Err wrong) = Err wrong
+
+-- what is read of the operands of a command, which are wrong where that is nothing
+abbrev pub read_of : {T : Type 0} → Verb → Option T → Result T Wrong
+read_of verb read = ok_or read (Operands verb)
 
 -- ---- words of operands
 
@@ -61,9 +82,36 @@ digits_or_fraction text =
     option_or (word_of_digits text)
     (option_map (λ steps. low_bits (pos 2 *ℤ steps)) (result_ok (decimal_fraction text)))
 
--- ---- the word after `put ttss`, with the names of the last source and the place of the word
+-- the place after which the point of numbers is, by what comes after how many they are
+abbrev pub lone_point : List ℕ → Option ℕ
+lone_point operands =
+    if has_no_word (after_word operands) then point_of (point_at operands) else None
 
+-- ---- addresses and words
+
+-- why the operands of `=`, or of an operation without an address, are no word
+abbrev pub numbers_wrong : List ℕ → List ℕ → Wrong
+numbers_wrong operation operands =
+    if bytes_eq operation (codes "=") && not (has_no_word operands)
+    then wrongs.Word Third mistakes.Whole
+    else (if bytes_eq operation (codes "int") && has_no_word (after_word operands)
+    then wrongs.Word Second mistakes.Point else Operands verbs.Word)
+
+-- with the names of the last source and what `*` is: the counter, or the place of a word
 module _ (names : List (List ℕ × ℕ)) (place : ℕ) where
+  -- an address is written as an operand of the last source: as ttss, by a name or by `*`, and
+  -- perhaps with a sign and a number after it
+  unfoldable pub address_at : LineWord → List ℕ → Result ℕ Wrong
+  address_at which text =
+      result_map_both (λ address. address)
+      (λ fault. wrongs.Word which (address_mistake fault text)) (address_operand names place text)
+
+  -- the first of the operands of a command as an address
+  unfoldable pub first_address : Verb → LineWord → List ℕ → Result ℕ Wrong
+  first_address verb which operands =
+      if has_no_word operands then Err (Operands verb)
+      else address_at which (first_word operands)
+
   -- an operation of the last source with at most two operands, of which `*` is the place
   unfoldable pub operation_at : List ℕ → Option ℕ
   operation_at line =
@@ -80,18 +128,25 @@ module _ (names : List (List ℕ × ℕ)) (place : ℕ) where
       (Some (point_at (after_word operands))))
       else None
 
-  -- `=` and a number, eight digits, a fraction, or an operation
+  -- the value after `put ttss`: `=` and a number, eight digits, a fraction, or an operation
   unfoldable pub value_at : List ℕ → Option ℕ
   value_at operands =
       if bytes_eq (first_word operands) (codes "=") then whole_at (after_word operands)
       else option_or (option_and_then digits_or_fraction (lone_word operands))
       (operation_at operands)
 
--- ---- the commands
+  -- why a value is no word
+  abbrev pub value_wrong : List ℕ → Wrong
+  value_wrong value =
+      if has_no_word value then Operands verbs.Word
+      else (if takes_place (first_word value)
+      then unwrap_or (result_err (first_address verbs.Word Third (after_word value)))
+      (Operands verbs.Word)
+      else (if takes_numbers (first_word value)
+      then numbers_wrong (first_word value) (after_word value)
+      else wrongs.Word Second (value_mistake (first_word value))))
 
--- what is asked for with what was read of the operands; nothing where they are not in form
-abbrev pub asked_by : {T : Type 0} → (T → Entry) → Option T → Entry
-asked_by ask read = option_map_or ask read entry.Misformed
+-- ---- the commands
 
 -- what a command asks for with an address
 abbrev pub asked_at : AddressCommand → ℕ → Entry
@@ -105,14 +160,15 @@ asked_at address_commands.Cost address =
     entry.Asked (questions.Data (data_questions.Cost address) Lines)
 
 -- what a command asks for with a number; those of scripts are read as scripts have them
-abbrev pub asked_with : NumberCommand → ℕ → Entry
-asked_with number_commands.Script number = entry.Misformed
-asked_with (number_commands.Trace form) limit = entry.Reported (tellings.Trace form) limit
-asked_with (number_commands.Profile form) limit = entry.Reported (tellings.Profile form) limit
-asked_with number_commands.Drum limit = entry.Reported tellings.Drum limit
-asked_with number_commands.Operate limit = entry.Operate limit
+abbrev pub asked_with : NumberCommand → ℕ → Option Entry
+asked_with number_commands.Script number = None
+asked_with (number_commands.Trace form) limit = Some (entry.Reported (tellings.Trace form) limit)
+asked_with (number_commands.Profile form) limit =
+    Some (entry.Reported (tellings.Profile form) limit)
+asked_with number_commands.Drum limit = Some (entry.Reported tellings.Drum limit)
+asked_with number_commands.Operate limit = Some (entry.Operate limit)
 asked_with number_commands.PaperData from =
-    entry.Asked (questions.Data (data_questions.Paper from) Lines)
+    Some (entry.Asked (questions.Data (data_questions.Paper from) Lines))
 
 -- what a command asks for with a range of words
 abbrev pub asked_of : RangeCommand → WordRange → Entry
@@ -121,27 +177,30 @@ asked_of range_commands.Show range = entry.Script (commands.Show range)
 asked_of range_commands.ShowData range =
     entry.Asked (questions.Data (data_questions.Show range) Lines)
 
+-- a question for programs, answered by lines
+abbrev pub data_asked : DataQuestion → Option Entry
+data_asked question = Some (entry.Asked (questions.Data question Lines))
+
 -- what a command asks for by itself; those of scripts are read as scripts have them
-abbrev pub asked_alone : LoneCommand → Entry
-asked_alone lone_commands.Script = entry.Misformed
-asked_alone lone_commands.ScriptQuestion = entry.Misformed
-asked_alone lone_commands.Paper = entry.Asked questions.Paper
-asked_alone lone_commands.Rules = entry.Asked questions.Rules
-asked_alone lone_commands.Labels = entry.Asked questions.Labels
-asked_alone lone_commands.Live = entry.Asked questions.Live
-asked_alone lone_commands.Commands = entry.Asked questions.Commands
-asked_alone lone_commands.PanelData = entry.Asked (questions.Data data_questions.Panel Lines)
-asked_alone lone_commands.CommandsData = entry.Asked (questions.Data data_questions.Commands Lines)
-asked_alone lone_commands.OperationsData =
-    entry.Asked (questions.Data data_questions.Operations Lines)
-asked_alone lone_commands.FaultsData = entry.Asked (questions.Data data_questions.Faults Lines)
-asked_alone lone_commands.StateData = entry.Asked (questions.Data data_questions.State Lines)
-asked_alone lone_commands.LabelsData = entry.Asked (questions.Data data_questions.Labels Lines)
-asked_alone lone_commands.RulesData = entry.Asked (questions.Data data_questions.Rules Lines)
-asked_alone lone_commands.TapeData = entry.Asked (questions.Data data_questions.Tape Lines)
-asked_alone lone_commands.SourceData = entry.Asked (questions.Data data_questions.Source Lines)
-asked_alone lone_commands.Transcript = entry.Transcript
-asked_alone lone_commands.New = entry.New
+abbrev pub asked_alone : LoneCommand → Option Entry
+asked_alone lone_commands.Script = None
+asked_alone lone_commands.ScriptQuestion = None
+asked_alone lone_commands.Paper = Some (entry.Asked questions.Paper)
+asked_alone lone_commands.Rules = Some (entry.Asked questions.Rules)
+asked_alone lone_commands.Labels = Some (entry.Asked questions.Labels)
+asked_alone lone_commands.Live = Some (entry.Asked questions.Live)
+asked_alone lone_commands.Commands = Some (entry.Asked questions.Commands)
+asked_alone lone_commands.PanelData = data_asked data_questions.Panel
+asked_alone lone_commands.CommandsData = data_asked data_questions.Commands
+asked_alone lone_commands.OperationsData = data_asked data_questions.Operations
+asked_alone lone_commands.FaultsData = data_asked data_questions.Faults
+asked_alone lone_commands.StateData = data_asked data_questions.State
+asked_alone lone_commands.LabelsData = data_asked data_questions.Labels
+asked_alone lone_commands.RulesData = data_asked data_questions.Rules
+asked_alone lone_commands.TapeData = data_asked data_questions.Tape
+asked_alone lone_commands.SourceData = data_asked data_questions.Source
+asked_alone lone_commands.Transcript = Some entry.Transcript
+asked_alone lone_commands.New = Some entry.New
 
 -- ---- replies for programs
 
@@ -181,117 +240,128 @@ as_objects (entry.Asked question) = entry.Asked (question_as_objects question)
 as_objects (entry.Reported telling limit) = entry.Reported (telling_as_objects telling) limit
 as_objects asked = asked
 
--- whether nothing is asked for, since a line is in no command's form
-abbrev pub is_misformed : Entry → Bool
-is_misformed entry.Misformed = true
-is_misformed asked = false
-
--- whether another line comes after a command
-abbrev pub is_line_verb : Verb → Bool
-is_line_verb verbs.Line = true
-is_line_verb verb = false
-
 -- what is asked for with replies for programs in a form
 abbrev pub in_form : RecordForm → Entry → Entry
 in_form Lines asked = asked
 in_form Objects asked = as_objects asked
 
+-- ---- a line
+
+-- what is asked for by a whole line
+abbrev pub asked_by : Result Entry Wrong → Entry
+asked_by (Ok asked) = asked
+asked_by (Err wrong) = entry.Misformed parts.Line wrong
+
+-- what is asked for by a line after `json`, whose reply is objects of JSON; where that line is in
+-- form and has another reply, or is not there, the whole line is not in form
+abbrev pub asked_as_objects : List ℕ → Result Entry Wrong → Entry
+asked_as_objects line (Ok asked) =
+    if is_for_programs asked then as_objects asked else asked_by (Err (Operands verbs.Line))
+asked_as_objects line (Err wrong) =
+    if has_no_word line || is_some (command_of line) then asked_by (Err (Operands verbs.Line))
+    else entry.Misformed parts.AfterName wrong
+
 -- with the names of the last source and the counter
 module _ (names : List (List ℕ × ℕ)) (counter : ℕ) where
-  -- an address is written as an operand of the last source: as ttss, by a name, or by `*`, which is
-  -- here the counter, and perhaps with a sign and a number after it
-  unfoldable pub address_at : List ℕ → Option ℕ
-  address_at text = result_ok (address_operand names counter text)
-
   -- a range of words, by an address and a number
-  unfoldable pub range_at : List ℕ → List ℕ → Option WordRange
-  range_at address count =
-      option_and_then (λ first. option_and_then (range_of first) (lone_number count))
-      (address_at address)
+  unfoldable pub range_at : Verb → List ℕ → List ℕ → Result WordRange Wrong
+  range_at verb operands count =
+      and_then (λ first. read_of verb (option_and_then (range_of first) (lone_number count)))
+      (first_address names counter verb First operands)
+
+  -- a command with an address and no more
+  unfoldable pub address_entry : AddressCommand → List ℕ → Result Entry Wrong
+  address_entry command operands =
+      and_then (λ address. read_of (verbs.Address command)
+      (if has_no_word (after_word operands) then Some (asked_at command address) else None))
+      (first_address names counter (verbs.Address command) First operands)
 
   -- a range of words as numbers, and the place after which their point is
-  unfoldable pub numbers_entry : List ℕ → Entry
+  unfoldable pub numbers_entry : List ℕ → Result Entry Wrong
   numbers_entry operands =
       let count = after_word operands in
-      let point = after_word count in
-      if has_no_word (after_word point)
-      then asked_by (λ range. asked_by (λ place. entry.Asked (questions.Numbers range place))
-      (point_of (point_at point))) (range_at (first_word operands) (first_word count))
-      else entry.Misformed
+      and_then (λ range. read_of verbs.ScaledRange
+      (option_map (λ place. entry.Asked (questions.Numbers range place))
+      (lone_point (after_word count))))
+      (range_at verbs.ScaledRange operands (first_word count))
 
   -- what a view draws after a step: a range of words, and how many printed codes are known
-  unfoldable pub look_entry : List ℕ → Entry
+  unfoldable pub look_entry : List ℕ → Result Entry Wrong
   look_entry operands =
       let count = after_word operands in
-      asked_by (λ range. asked_by (λ from.
-      entry.Asked (questions.Data (data_questions.Look range from) Lines))
-      (lone_number (after_word count))) (range_at (first_word operands) (first_word count))
+      and_then (λ range. read_of verbs.CountedRange
+      (option_map (λ from. entry.Asked (questions.Data (data_questions.Look range from) Lines))
+      (lone_number (after_word count))))
+      (range_at verbs.CountedRange operands (first_word count))
+
+  -- the word whose address comes after the number of a run
+  abbrev pub optimum_of : Report → List ℕ → ℕ → Result Entry Wrong
+  optimum_of form place limit =
+      and_then (λ word. read_of (verbs.NumberAddress form)
+      (if has_no_word (after_word place)
+      then Some (entry.Reported (tellings.OptimumOf form word) limit) else None))
+      (address_at names counter Second (first_word place))
 
   -- a run of which the words with most to gain are reported in a form, or the word whose address
   -- comes after its number
-  unfoldable pub optimum_entry : Report → List ℕ → Entry
+  unfoldable pub optimum_entry : Report → List ℕ → Result Entry Wrong
   optimum_entry form operands =
       let place = after_word operands in
-      if has_no_word place
-      then asked_by (entry.Reported (tellings.Optimum form)) (lone_number operands)
-      else (if has_no_word (after_word place)
-      then asked_by (λ word. asked_by (entry.Reported (tellings.OptimumOf form word))
-      (lone_number (first_word operands))) (address_at (first_word place))
-      else entry.Misformed)
+      and_then (λ limit. if has_no_word place then Ok (entry.Reported (tellings.Optimum form) limit)
+      else optimum_of form place limit)
+      (read_of (verbs.NumberAddress form) (lone_number (first_word operands)))
+
+  -- a word for an address
+  unfoldable pub put_entry : List ℕ → Result Entry Wrong
+  put_entry operands =
+      let value = after_word operands in
+      and_then (λ place. ok_or
+      (option_map (λ word. entry.Script (commands.Put place word)) (value_at names place value))
+      (value_wrong names place value))
+      (first_address names counter verbs.Word First operands)
 
   -- a command with its operands, by what comes after its name; of some the script's own form is
   -- the only one
-  unfoldable pub entry_by : List ℕ → Verb → Entry
+  unfoldable pub entry_by : List ℕ → Verb → Result Entry Wrong
   entry_by operands (verbs.Lone command) =
-      if has_no_word operands then asked_alone command else entry.Misformed
-  entry_by operands (verbs.Address command) =
-      asked_by (asked_at command) (option_and_then address_at (lone_word operands))
-  entry_by operands (verbs.Number command) = asked_by (asked_with command) (lone_number operands)
+      read_of (verbs.Lone command)
+      (if has_no_word operands then asked_alone command else None)
+  entry_by operands (verbs.Address command) = address_entry command operands
+  entry_by operands (verbs.Number command) =
+      read_of (verbs.Number command)
+      (option_and_then (asked_with command) (lone_number operands))
   entry_by operands (verbs.NumberAddress form) = optimum_entry form operands
   entry_by operands (verbs.Range command) =
-      asked_by (asked_of command) (range_at (first_word operands) (after_word operands))
+      and_then (λ range. Ok (asked_of command range))
+      (range_at (verbs.Range command) operands (after_word operands))
   entry_by operands verbs.ScaledRange = numbers_entry operands
   entry_by operands verbs.CountedRange = look_entry operands
-  entry_by operands verbs.Word =
-      asked_by (λ place. asked_by (λ word. entry.Script (commands.Put place word))
-      (value_at names place (after_word operands))) (address_at (first_word operands))
+  entry_by operands verbs.Word = put_entry operands
   entry_by operands verbs.Command =
-      if has_no_word operands then entry.Help
-      else asked_by entry.HelpOf (option_and_then (named verb_names) (lone_word operands))
-  entry_by operands verb = entry.Misformed
+      read_of verbs.Command (if has_no_word operands then Some entry.Help
+      else option_map entry.HelpOf (option_and_then (named verb_names) (lone_word operands)))
+  entry_by operands verb = Err (Operands verb)
 
   -- a line in the monitor's own forms
-  abbrev pub plain_entry : List ℕ → Entry
-  plain_entry line = asked_by (entry_by (after_word line)) (named verb_names (first_word line))
+  abbrev pub plain_entry : List ℕ → Result Entry Wrong
+  plain_entry line =
+      option_map_or (entry_by (after_word line)) (named verb_names (first_word line))
+      (Err (name_wrong (first_word line)))
 
-  -- a line that asks by another one for programs, whose reply is objects of JSON
-  unfoldable pub json_entry : List ℕ → Entry
-  json_entry line =
-      let asked = plain_entry line in
-      if is_for_programs asked then as_objects asked else entry.Misformed
+  -- the same, or a line that asks by another one for programs
+  abbrev pub typed_by : List ℕ → Verb → Entry
+  typed_by operands verbs.Line = asked_as_objects operands (plain_entry operands)
+  typed_by operands verb = asked_by (entry_by operands verb)
 
-  -- a command of scripts, or a line in the monitor's own forms
-  abbrev pub command_entry : List ℕ → Entry
-  command_entry line = option_map_or entry.Script (command_of line) (plain_entry line)
-
-  -- of a line that is in no command's form the part that is wrong: the line after `json`, where that
-  -- is in no form itself
-  unfoldable pub wrong_part : List ℕ → List ℕ
-  wrong_part line =
-      let asked = after_word line in
-      if option_map_or is_line_verb (named verb_names (first_word line)) false
-      && (not (has_no_word asked) && is_misformed (command_entry asked))
-      then asked else line
-
-  -- the same, or a line by itself
-  unfoldable pub typed_by : List ℕ → Verb → Entry
-  typed_by operands verbs.Line = json_entry operands
-  typed_by operands verb = entry_by operands verb
+  -- a line that is no command of scripts
+  unfoldable pub typed_entry : List ℕ → Entry
+  typed_entry line =
+      option_map_or (typed_by (after_word line)) (named verb_names (first_word line))
+      (asked_by (Err (name_wrong (first_word line))))
 
   -- what a line asks for where no source is open: one that is too long, a comment and a blank one
   -- stand for themselves, then come the commands of scripts
   unfoldable pub entry_of : Kept → Entry
   entry_of kept =
       if kept.longer || kept.blank || is_comment kept.front then entry.Itself
-      else option_map_or entry.Script (command_of kept.front)
-      (asked_by (typed_by (after_word kept.front)) (named verb_names (first_word kept.front)))
+      else option_map_or entry.Script (command_of kept.front) (typed_entry kept.front)

@@ -5,6 +5,8 @@ pub mod Telling
 pub mod TellingInside
 pub mod Scaled
 pub mod Forms
+pub mod Mistakes
+pub mod Wrongs
 pub mod DataQuestions
 pub mod Questions
 pub mod Entry

@@ -23,10 +23,11 @@ use Rattle.lgp_script.specs.LabState.{LabState, labels_of, opening_state}
 use Rattle.lgp_script.specs.declared.refusal.Refusal.TheVariants.{TooLong}
 use Rattle.lgp_monitor.specs.Closing.{closing_reply}
 use Rattle.lgp_monitor.specs.Questions.{answer_to}
-use Rattle.lgp_monitor.specs.Forms.{form_line, help_text, misformed_text}
+use Rattle.lgp_monitor.specs.Forms.{form_line, help_text}
 use Rattle.lgp_monitor.specs.Reasons.{explained_text, refused_text, run_end_text}
 use Rattle.lgp_monitor.specs.Telling.{form_of, reported_text}
-use Rattle.lgp_monitor.specs.Entry.{entry_of, in_form, wrong_part}
+use Rattle.lgp_monitor.specs.Entry.{entry_of, in_form}
+use Rattle.lgp_monitor.specs.Wrongs.{misformed_text}
 use Rattle.lgp_monitor.specs.Operating.{operated, run_line, starts_text}
 use Rattle.lgp_monitor.specs.declared.telling.Telling.{Telling}
 use Rattle.lgp_monitor.specs.declared.entry.Entry.{Entry}
@@ -84,7 +85,7 @@ module _ (recorded : Recorded LabState) where
   -- what a line of which this is kept stands for; what is shown stands for no line
   abbrev pub meaning_of : Entry → Kept → Meaning
   meaning_of entry.Itself kept = Lines (stand_in kept ∷ [])
-  meaning_of entry.Misformed kept = Lines (stand_in kept ∷ [])
+  meaning_of (entry.Misformed part wrong) kept = Lines (stand_in kept ∷ [])
   meaning_of (entry.Script command) kept =
       Lines (command_text command (text_after_word kept.front) ∷ [])
   meaning_of (entry.Go address) kept = Lines (go_lines address)
@@ -101,8 +102,7 @@ module _ (recorded : Recorded LabState) where
   -- the reply to a line of which this is kept
   abbrev pub reply_of : Entry → Kept → List ℕ
   reply_of entry.Itself kept = passed_reply kept
-  reply_of entry.Misformed kept =
-      misformed_text names_at counter_at (wrong_part names_at counter_at kept.front)
+  reply_of (entry.Misformed part wrong) kept = misformed_text kept.front part wrong
   reply_of (entry.Script command) kept =
       (explained_command command (text_after_word kept.front)).reply
   reply_of (entry.Go address) kept = replies_text script_language recorded (go_lines address)

@@ -153,12 +153,3 @@ only_asks verbs.ScaledRange = true
 only_asks verbs.CountedRange = true
 only_asks verbs.Command = true
 only_asks _ = false
-
--- whether an address comes first after a command's name
-abbrev pub takes_address : Verb → Bool
-takes_address (verbs.Address command) = true
-takes_address (verbs.Range command) = true
-takes_address verbs.ScaledRange = true
-takes_address verbs.CountedRange = true
-takes_address verbs.Word = true
-takes_address verb = false

@@ -1,23 +1,25 @@
 //! What a typed line asks for.
 
-ghost use Rattle.std.specs.Prelude.{◌≡◌, ◌==◌, ◌||◌, ◌*ℤ◌, false, if◌then◌else◌, is_some, option_and_then, option_map, pos, slice_index};
+ghost use Rattle.std.specs.Prelude.{◌≡◌, ◌||◌, ◌*ℤ◌, Ok, if◌then◌else◌, is_some, option_and_then, option_map, pos};
 ghost use Rattle.std.specs.Option.{option_copied, option_map_or};
 ghost use Rattle.std.specs.Result.{result_ok};
-ghost use Rattle.std.specs.Str.{byte};
 ghost use Rattle.lgp_fraction.specs.Arithmetic.{low_bits};
 ghost use Rattle.lgp_fraction.specs.Decimal.{decimal_fraction};
 ghost use Rattle.lgp_command.specs.Command.{command_of, is_comment, lone_number};
 ghost use Rattle.lgp_command.specs.Span.{range_of};
-ghost use Rattle.lgp_stream.specs.LineWords.{after_word, first_word, has_no_word};
+ghost use Rattle.lgp_stream.specs.LineWords.{after_word, has_no_word};
 ghost use Rattle.lgp_text.specs.NamedValues.{named};
 ghost use Rattle.lgp_monitor.specs.Verbs.{verb_names};
-ghost use Rattle.lgp_monitor.specs.Entry.{address_at, as_objects, command_entry, is_line_verb, is_misformed, wrong_part, asked_alone, asked_at, asked_by, asked_of, asked_with, digits_or_fraction, in_form, is_data, is_for_programs, is_records, json_entry, lone_word, look_entry, numbers_entry, operand_at, operation_at, plain_entry, point_at, optimum_entry, question_as_objects, range_at, report_as_objects, entry_by, entry_of, telling_as_objects, typed_by, value_at, whole_at};
+ghost use Rattle.lgp_monitor.specs.Wrongs.{name_wrong};
+ghost use Rattle.lgp_monitor.specs.Entry.{address_at, address_entry, and_then, as_objects, asked_alone, asked_as_objects, asked_at, asked_by, asked_of, asked_with, digits_or_fraction, entry_by, entry_of, first_address, in_form, is_data, is_for_programs, is_records, lone_point, lone_word, look_entry, numbers_entry, numbers_wrong, operand_at, operation_at, optimum_entry, optimum_of, plain_entry, point_at, put_entry, question_as_objects, range_at, read_of, report_as_objects, telling_as_objects, typed_by, typed_entry, value_at, value_wrong, whole_at};
 
 use crate::data_question::DataQuestion;
+use crate::mistake::{Mistake, address_mistake, takes_numbers, takes_place, value_mistake};
 use crate::question::Question;
 use crate::scaled::Point;
 use crate::telling::{Report, Telling};
 use crate::verb::{AddressCommand, LoneCommand, NumberCommand, RangeCommand, Verb, verb_named};
+use crate::wrong::{LineWord, Part, Wrong, name_wrong};
 use lgp_assembler::{Name, OperandFault, Symbols, address_operand, operation_word};
 use lgp_command::{Asked, Command, Count, Span, asked_in, is_comment, lone_count};
 use lgp_fields::RecordForm;
@@ -30,8 +32,8 @@ use lgp_word::{Address, Word, read_digits};
 pub enum Entry {
     /// Nothing: it is blank or a comment, or it is too long.
     Itself,
-    /// It is in no command's form.
-    Misformed,
+    /// A part of it is in no command's form, and what is wrong with that.
+    Misformed(Part, Wrong),
     /// A command of scripts.
     Script(Command),
     /// The machine started at an address.
@@ -52,26 +54,37 @@ pub enum Entry {
     HelpOf(Verb),
 }
 
-/// The address that a text is, by the names of the last source and the counter.
+/// The address that a word of a line is, by the names of the last source and what `*` is.
 #[tactic(auto, unfolding(crate::specs::Entry::address_at))]
-fn address_at(names: &[(Name, u16)], counter: Address, text: &[u8]) -> Option<Address>
-    ensures { result ≡ address_at names.now counter text.now }
+fn address_at(
+    names: &[(Name, u16)],
+    place: Address,
+    which: LineWord,
+    text: &[u8],
+) -> Result<Address, Wrong>
+    ensures { result ≡ address_at names.now place which text.now }
 {
-    let symbols = Symbols { names };
-    match address_operand(&symbols, u64::from(counter.number()), text) {
-        Ok(address) => Some(address),
-        Err(_) => None,
+    match address_operand(&Symbols { names }, u64::from(place.number()), text) {
+        Ok(address) => Ok(address),
+        Err(fault) => Err(Wrong::Word(which, address_mistake(fault, text))),
     }
 }
 
-/// A word, where there is one.
-fn word_by(word: Result<Word, OperandFault>) -> Option<Word>
-    ensures { result ≡ result_ok word }
+/// The first of the operands of a command as an address.
+#[tactic(auto, unfolding(crate::specs::Entry::first_address))]
+fn first_address(
+    names: &[(Name, u16)],
+    place: Address,
+    verb: Verb,
+    which: LineWord,
+    operands: &[u8],
+) -> Result<Address, Wrong>
+    ensures { result ≡ first_address names.now place verb which operands.now }
 {
-    match word {
-        Ok(word) => Some(word),
-        Err(_) => None,
+    if has_no_word(operands) {
+        return Err(Wrong::Operands(verb));
     }
+    address_at(names, place, which, split_word(operands).word)
 }
 
 /// The first of some operands.
@@ -95,13 +108,14 @@ fn operation_at(names: &[(Name, u16)], place: Address, line: &[u8]) -> Option<Wo
     if !has_no_word(second.rest) {
         return None;
     }
-    word_by(operation_word(
+    operation_word(
         &Symbols { names },
         u64::from(place.number()),
         operation.word,
         operand_at(operation.rest),
         operand_at(first.rest),
-    ))
+    )
+    .ok()
 }
 
 /// The place after which a number's point is.
@@ -124,13 +138,14 @@ fn whole_at(names: &[(Name, u16)], place: Address, operands: &[u8]) -> Option<Wo
     if !has_no_word(point.rest) {
         return None;
     }
-    word_by(operation_word(
+    operation_word(
         &Symbols { names },
         u64::from(place.number()),
         b"int",
         Some(number.word),
         Some(point_at(number.rest)),
-    ))
+    )
+    .ok()
 }
 
 /// The word of a fraction's text.
@@ -173,28 +188,48 @@ fn value_at(names: &[(Name, u16)], place: Address, operands: &[u8]) -> Option<Wo
     }
 }
 
-/// A word for an address.
-fn put_by(names: &[(Name, u16)], address: Option<Address>, operands: &[u8]) -> Entry
-    ensures { result ≡ asked_by (λ place. asked_by (λ word. Entry.Script (Command.Put place word))
-        (value_at names.now place operands.now)) address }
+/// Why the operands of `=`, or of an operation without an address, are no word.
+fn numbers_wrong(operation: &[u8], operands: &[u8]) -> Wrong
+    ensures { result ≡ numbers_wrong operation.now operands.now }
 {
-    let Some(address) = address else {
-        return Entry::Misformed;
-    };
-    match value_at(names, address, operands) {
-        Some(word) => Entry::Script(Command::Put(address, word)),
-        None => Entry::Misformed,
+    if operation == b"=".as_slice() && !has_no_word(operands) {
+        return Wrong::Word(LineWord::Third, Mistake::Whole);
     }
+    if operation == b"int".as_slice() && has_no_word(split_word(operands).rest) {
+        return Wrong::Word(LineWord::Second, Mistake::Point);
+    }
+    Wrong::Operands(Verb::Word)
 }
 
-/// The operands of `put`.
-fn put_typed(names: &[(Name, u16)], counter: Address, operands: &[u8]) -> Entry
-    ensures { result ≡ asked_by (λ place. asked_by (λ word. Entry.Script (Command.Put place word))
-        (value_at names.now place (after_word operands.now)))
-        (address_at names.now counter (first_word operands.now)) }
+/// Why a value is no word.
+fn value_wrong(names: &[(Name, u16)], place: Address, value: &[u8]) -> Wrong
+    ensures { result ≡ value_wrong names.now place value.now }
 {
-    let Split { word, rest } = split_word(operands);
-    put_by(names, address_at(names, counter, word), rest)
+    if has_no_word(value) {
+        return Wrong::Operands(Verb::Word);
+    }
+    let Split { word, rest } = split_word(value);
+    if takes_place(word) {
+        let address = first_address(names, place, Verb::Word, LineWord::Third, rest);
+        return address.err().unwrap_or(Wrong::Operands(Verb::Word));
+    }
+    if takes_numbers(word) {
+        return numbers_wrong(word, rest);
+    }
+    Wrong::Word(LineWord::Second, value_mistake(word))
+}
+
+/// A word for an address.
+#[tactic(auto, unfolding(crate::specs::Entry::put_entry))]
+fn put_entry(names: &[(Name, u16)], counter: Address, operands: &[u8]) -> Result<Entry, Wrong>
+    ensures { result ≡ put_entry names.now counter operands.now }
+{
+    let place = first_address(names, counter, Verb::Word, LineWord::First, operands)?;
+    let value = split_word(operands).rest;
+    match value_at(names, place, value) {
+        Some(word) => Ok(Entry::Script(Command::Put(place, word))),
+        None => Err(value_wrong(names, place, value)),
+    }
 }
 
 /// A question of a program, whose reply is lines.
@@ -218,45 +253,48 @@ fn asked_at(command: AddressCommand, address: Address) -> Entry
     }
 }
 
-/// The operand of a command that takes an address.
-fn address_typed(
+/// A command with an address and no more.
+#[tactic(auto, unfolding(crate::specs::Entry::address_entry))]
+fn address_entry(
     names: &[(Name, u16)],
     counter: Address,
     command: AddressCommand,
     operands: &[u8],
-) -> Entry
-    ensures { result ≡ asked_by (asked_at command)
-        (option_and_then (address_at names.now counter) (lone_word operands.now)) }
+) -> Result<Entry, Wrong>
+    ensures { result ≡ address_entry names.now counter command operands.now }
 {
-    let Split { word, rest } = split_word(operands);
-    if !has_no_word(rest) {
-        return Entry::Misformed;
-    }
-    match address_at(names, counter, word) {
-        Some(address) => asked_at(command, address),
-        None => Entry::Misformed,
+    let verb = Verb::Address(command);
+    let address = first_address(names, counter, verb, LineWord::First, operands)?;
+    if has_no_word(split_word(operands).rest) {
+        Ok(asked_at(command, address))
+    } else {
+        Err(Wrong::Operands(verb))
     }
 }
 
 /// A given number of words from an address on.
-fn range_by(address: Option<Address>, count: Option<Count>) -> Option<Span>
-    ensures { result
-        ≡ option_and_then (λ first. option_and_then (range_of first) count) address }
+fn range_by(address: Address, count: Option<Count>) -> Option<Span>
+    ensures { result ≡ option_and_then (range_of address) count }
 {
-    match (address, count) {
-        (Some(address), Some(count)) => Span::new(address, count.get()),
-        _ => None,
+    match count {
+        Some(count) => Span::new(address, count.get()),
+        None => None,
     }
 }
 
-/// A range of words.
+/// A range of words, by the first operand and a number.
 #[tactic(auto, unfolding(crate::specs::Entry::range_at))]
-fn range_at(names: &[(Name, u16)], counter: Address, operands: &[u8]) -> Option<Span>
-    ensures { result ≡ range_at names.now counter
-        (first_word operands.now) (after_word operands.now) }
+fn range_at(
+    names: &[(Name, u16)],
+    counter: Address,
+    verb: Verb,
+    operands: &[u8],
+    count: &[u8],
+) -> Result<Span, Wrong>
+    ensures { result ≡ range_at names.now counter verb operands.now count.now }
 {
-    let Split { word, rest } = split_word(operands);
-    range_by(address_at(names, counter, word), lone_count(rest))
+    let first = first_address(names, counter, verb, LineWord::First, operands)?;
+    range_by(first, lone_count(count)).ok_or(Wrong::Operands(verb))
 }
 
 /// What a command asks for with a range of words.
@@ -270,225 +308,211 @@ fn asked_of(command: RangeCommand, range: Span) -> Entry
     }
 }
 
-/// The operands of a command that takes a range of words.
-fn range_typed(
+/// A command with a range of words and no more.
+fn range_entry(
     names: &[(Name, u16)],
     counter: Address,
     command: RangeCommand,
     operands: &[u8],
-) -> Entry
-    ensures { result ≡ asked_by (asked_of command)
-        (range_at names.now counter (first_word operands.now) (after_word operands.now)) }
+) -> Result<Entry, Wrong>
+    ensures { result ≡ and_then (λ range. Ok (asked_of command range))
+        (range_at names.now counter (Verb.Range command) operands.now (after_word operands.now)) }
 {
-    match range_at(names, counter, operands) {
-        Some(range) => asked_of(command, range),
-        None => Entry::Misformed,
+    let count = split_word(operands).rest;
+    let range = range_at(names, counter, Verb::Range(command), operands, count)?;
+    Ok(asked_of(command, range))
+}
+
+/// The place after which the point of numbers is, by what comes after how many they are.
+fn lone_point(operands: &[u8]) -> Option<Point>
+    ensures { result ≡ lone_point operands.now }
+{
+    if has_no_word(split_word(operands).rest) {
+        Point::read(point_at(operands))
+    } else {
+        None
     }
 }
 
-/// The range of words of the first two operands.
-#[tactic(auto, unfolding(crate::specs::Entry::range_at))]
-fn first_range(names: &[(Name, u16)], counter: Address, operands: &[u8]) -> Option<Span>
-    ensures { result ≡ range_at names.now counter
-        (first_word operands.now) (first_word (after_word operands.now)) }
-{
-    let Split { word, rest } = split_word(operands);
-    range_by(
-        address_at(names, counter, word),
-        lone_count(split_word(rest).word),
-    )
-}
-
-/// A range of words as numbers with this point.
-fn numbers_by(range: Option<Span>, point: Option<Point>) -> Entry
-    ensures { result ≡ asked_by (λ words. asked_by (λ place.
-        Entry.Asked (Question.Numbers words place)) point) range }
-{
-    match (range, point) {
-        (Some(range), Some(point)) => Entry::Asked(Question::Numbers(range, point)),
-        _ => Entry::Misformed,
-    }
-}
-
-/// The operands of `numbers`.
+/// A range of words as numbers.
 #[tactic(auto, unfolding(crate::specs::Entry::numbers_entry))]
-fn numbers_entry(names: &[(Name, u16)], counter: Address, operands: &[u8]) -> Entry
+fn numbers_entry(names: &[(Name, u16)], counter: Address, operands: &[u8]) -> Result<Entry, Wrong>
     ensures { result ≡ numbers_entry names.now counter operands.now }
 {
-    let address = split_word(operands);
-    let count = split_word(address.rest);
-    let point = split_word(count.rest);
-    if !has_no_word(point.rest) {
-        return Entry::Misformed;
+    let verb = Verb::ScaledRange;
+    let count = split_word(split_word(operands).rest);
+    let range = range_at(names, counter, verb, operands, count.word)?;
+    match lone_point(count.rest) {
+        Some(place) => Ok(Entry::Asked(Question::Numbers(range, place))),
+        None => Err(Wrong::Operands(verb)),
     }
-    numbers_by(
-        first_range(names, counter, operands),
-        Point::read(point_at(count.rest)),
-    )
 }
 
 /// A range of words, and how many printed codes are known.
-fn look_by(range: Option<Span>, from: Option<Count>) -> Entry
-    ensures { result ≡ asked_by (λ words. asked_by (λ known.
-        Entry.Asked (Question.Data (DataQuestion.Look words known) RecordForm.Lines)) from) range }
+#[tactic(auto, unfolding(crate::specs::Entry::look_entry))]
+fn look_entry(names: &[(Name, u16)], counter: Address, operands: &[u8]) -> Result<Entry, Wrong>
+    ensures { result ≡ look_entry names.now counter operands.now }
 {
-    match (range, from) {
-        (Some(range), Some(from)) => asked_data(DataQuestion::Look(range, from.get())),
-        _ => Entry::Misformed,
+    let verb = Verb::CountedRange;
+    let count = split_word(split_word(operands).rest);
+    let range = range_at(names, counter, verb, operands, count.word)?;
+    match lone_count(count.rest) {
+        Some(from) => Ok(asked_data(DataQuestion::Look(range, from.get()))),
+        None => Err(Wrong::Operands(verb)),
     }
 }
 
-/// The operands of `look`.
-#[tactic(auto, unfolding(crate::specs::Entry::look_entry))]
-fn look_entry(names: &[(Name, u16)], counter: Address, operands: &[u8]) -> Entry
-    ensures { result ≡ look_entry names.now counter operands.now }
-{
-    let count = split_word(operands).rest;
-    look_by(
-        first_range(names, counter, operands),
-        lone_count(split_word(count).rest),
-    )
-}
-
-/// What a command asks for with a number.
-fn asked_with(command: NumberCommand, number: Count) -> Entry
+/// What a command asks for with a number; those of scripts are read as scripts have them.
+fn asked_with(command: NumberCommand, number: Count) -> Option<Entry>
     ensures { result ≡ asked_with command number }
 {
     match command {
-        NumberCommand::Script => Entry::Misformed,
-        NumberCommand::Trace(form) => Entry::Reported(Telling::Trace(form), number),
-        NumberCommand::Profile(form) => Entry::Reported(Telling::Profile(form), number),
-        NumberCommand::Drum => Entry::Reported(Telling::Drum, number),
-        NumberCommand::Operate => Entry::Operate(number),
-        NumberCommand::PaperData => asked_data(DataQuestion::Paper(number.get())),
+        NumberCommand::Script => None,
+        NumberCommand::Trace(form) => Some(Entry::Reported(Telling::Trace(form), number)),
+        NumberCommand::Profile(form) => Some(Entry::Reported(Telling::Profile(form), number)),
+        NumberCommand::Drum => Some(Entry::Reported(Telling::Drum, number)),
+        NumberCommand::Operate => Some(Entry::Operate(number)),
+        NumberCommand::PaperData => Some(asked_data(DataQuestion::Paper(number.get()))),
     }
 }
 
-/// The operand of a command that takes a number.
-fn number_typed(command: NumberCommand, operands: &[u8]) -> Entry
-    ensures { result ≡ asked_by (asked_with command) (lone_number operands.now) }
+/// What was read of the operands of a command, which are wrong where that is nothing.
+fn read_of(verb: Verb, read: Option<Entry>) -> Result<Entry, Wrong>
+    ensures { result ≡ read_of verb read }
 {
-    match lone_count(operands) {
-        Some(number) => asked_with(command, number),
-        None => Entry::Misformed,
+    match read {
+        Some(entry) => Ok(entry),
+        None => Err(Wrong::Operands(verb)),
     }
 }
 
-/// The operand of `help`.
-fn help_typed(operands: &[u8]) -> Entry
-    ensures { result ≡ (if has_no_word operands.now then Entry.Help
-        else asked_by Entry.HelpOf (option_and_then (named verb_names) (lone_word operands.now))) }
+/// A command with a number and no more.
+fn number_entry(command: NumberCommand, operands: &[u8]) -> Result<Entry, Wrong>
+    ensures { result ≡ read_of (Verb.Number command)
+        (option_and_then (asked_with command) (lone_number operands.now)) }
+{
+    let verb = Verb::Number(command);
+    match lone_count(operands) {
+        Some(number) => read_of(verb, asked_with(command, number)),
+        None => Err(Wrong::Operands(verb)),
+    }
+}
+
+/// What `help` asks for.
+fn help_asked(operands: &[u8]) -> Option<Entry>
+    ensures { result ≡ (if has_no_word operands.now then Some Entry.Help
+        else option_map Entry.HelpOf (option_and_then (named verb_names) (lone_word operands.now))) }
 {
     if has_no_word(operands) {
-        return Entry::Help;
+        return Some(Entry::Help);
     }
     let Split { word, rest } = split_word(operands);
     if !has_no_word(rest) {
-        return Entry::Misformed;
+        return None;
     }
-    match verb_named(word) {
-        Some(verb) => Entry::HelpOf(verb),
-        None => Entry::Misformed,
-    }
+    verb_named(word).map(Entry::HelpOf)
 }
 
-/// A run that is reported in this way, where its number is known.
-fn reported_so(telling: Telling, limit: Option<Count>) -> Entry
-    ensures { result ≡ asked_by (Entry.Reported telling) limit }
-{
-    match limit {
-        Some(limit) => Entry::Reported(telling, limit),
-        None => Entry::Misformed,
-    }
-}
-
-/// The word of whom a run tells, and the run's number.
-fn reported_word(
+/// The word whose address comes after the number of a run.
+fn optimum_of(
     names: &[(Name, u16)],
     counter: Address,
     form: Report,
-    word: &[u8],
-    number: &[u8],
-) -> Entry
-    ensures { result ≡ asked_by (λ place. asked_by (Entry.Reported (Telling.OptimumOf form place))
-        (lone_number number.now)) (address_at names.now counter word.now) }
+    place: &[u8],
+    limit: Count,
+) -> Result<Entry, Wrong>
+    ensures { result ≡ optimum_of names.now counter form place.now limit }
 {
-    match address_at(names, counter, word) {
-        Some(place) => reported_so(Telling::OptimumOf(form, place), lone_count(number)),
-        None => Entry::Misformed,
+    let place = split_word(place);
+    let word = address_at(names, counter, LineWord::Second, place.word)?;
+    if has_no_word(place.rest) {
+        Ok(Entry::Reported(Telling::OptimumOf(form, word), limit))
+    } else {
+        Err(Wrong::Operands(Verb::NumberAddress(form)))
     }
 }
 
-/// The operands of `optimum` and `optimum-data`.
+/// A run of which optima are reported: those with most to gain, or one word's.
 #[tactic(auto, unfolding(crate::specs::Entry::optimum_entry))]
-fn optimum_entry(names: &[(Name, u16)], counter: Address, form: Report, operands: &[u8]) -> Entry
+fn optimum_entry(
+    names: &[(Name, u16)],
+    counter: Address,
+    form: Report,
+    operands: &[u8],
+) -> Result<Entry, Wrong>
     ensures { result ≡ optimum_entry names.now counter form operands.now }
 {
     let number = split_word(operands);
+    let Some(limit) = lone_count(number.word) else {
+        return Err(Wrong::Operands(Verb::NumberAddress(form)));
+    };
     if has_no_word(number.rest) {
-        return reported_so(Telling::Optimum(form), lone_count(operands));
+        return Ok(Entry::Reported(Telling::Optimum(form), limit));
     }
-    let place = split_word(number.rest);
-    if !has_no_word(place.rest) {
-        return Entry::Misformed;
-    }
-    reported_word(names, counter, form, place.word, number.word)
+    optimum_of(names, counter, form, number.rest, limit)
 }
 
-/// What a command asks for by itself.
-fn asked_alone(command: LoneCommand) -> Entry
+/// What a command asks for by itself; those of scripts are read as scripts have them.
+fn asked_alone(command: LoneCommand) -> Option<Entry>
     ensures { result ≡ asked_alone command }
 {
     match command {
-        LoneCommand::Script | LoneCommand::ScriptQuestion => Entry::Misformed,
-        LoneCommand::Paper => Entry::Asked(Question::Paper),
-        LoneCommand::Rules => Entry::Asked(Question::Rules),
-        LoneCommand::Labels => Entry::Asked(Question::Labels),
-        LoneCommand::Live => Entry::Asked(Question::Live),
-        LoneCommand::Commands => Entry::Asked(Question::Commands),
-        LoneCommand::PanelData => asked_data(DataQuestion::Panel),
-        LoneCommand::CommandsData => asked_data(DataQuestion::Commands),
-        LoneCommand::OperationsData => asked_data(DataQuestion::Operations),
-        LoneCommand::FaultsData => asked_data(DataQuestion::Faults),
-        LoneCommand::StateData => asked_data(DataQuestion::State),
-        LoneCommand::LabelsData => asked_data(DataQuestion::Labels),
-        LoneCommand::RulesData => asked_data(DataQuestion::Rules),
-        LoneCommand::TapeData => asked_data(DataQuestion::Tape),
-        LoneCommand::SourceData => asked_data(DataQuestion::Source),
-        LoneCommand::Transcript => Entry::Transcript,
-        LoneCommand::New => Entry::New,
+        LoneCommand::Script | LoneCommand::ScriptQuestion => None,
+        LoneCommand::Paper => Some(Entry::Asked(Question::Paper)),
+        LoneCommand::Rules => Some(Entry::Asked(Question::Rules)),
+        LoneCommand::Labels => Some(Entry::Asked(Question::Labels)),
+        LoneCommand::Live => Some(Entry::Asked(Question::Live)),
+        LoneCommand::Commands => Some(Entry::Asked(Question::Commands)),
+        LoneCommand::PanelData => Some(asked_data(DataQuestion::Panel)),
+        LoneCommand::CommandsData => Some(asked_data(DataQuestion::Commands)),
+        LoneCommand::OperationsData => Some(asked_data(DataQuestion::Operations)),
+        LoneCommand::FaultsData => Some(asked_data(DataQuestion::Faults)),
+        LoneCommand::StateData => Some(asked_data(DataQuestion::State)),
+        LoneCommand::LabelsData => Some(asked_data(DataQuestion::Labels)),
+        LoneCommand::RulesData => Some(asked_data(DataQuestion::Rules)),
+        LoneCommand::TapeData => Some(asked_data(DataQuestion::Tape)),
+        LoneCommand::SourceData => Some(asked_data(DataQuestion::Source)),
+        LoneCommand::Transcript => Some(Entry::Transcript),
+        LoneCommand::New => Some(Entry::New),
     }
 }
 
 /// A command that takes no operand.
-fn lone_typed(command: LoneCommand, operands: &[u8]) -> Entry
-    ensures { result
-        ≡ (if has_no_word operands.now then asked_alone command else Entry.Misformed) }
+fn lone_entry(command: LoneCommand, operands: &[u8]) -> Result<Entry, Wrong>
+    ensures { result ≡ read_of (Verb.Lone command)
+        (if has_no_word operands.now then asked_alone command else None) }
 {
+    let verb = Verb::Lone(command);
     if has_no_word(operands) {
-        asked_alone(command)
+        read_of(verb, asked_alone(command))
     } else {
-        Entry::Misformed
+        Err(Wrong::Operands(verb))
     }
 }
 
 /// A command with its operands, by what comes after its name, in the forms that scripts do not have.
 #[tactic(auto, unfolding(crate::specs::Entry::entry_by))]
-fn entry_by(names: &[(Name, u16)], counter: Address, verb: Option<Verb>, operands: &[u8]) -> Entry
-    ensures { result ≡ asked_by (entry_by names.now counter operands.now) verb }
+fn entry_by(
+    names: &[(Name, u16)],
+    counter: Address,
+    verb: Verb,
+    operands: &[u8],
+) -> Result<Entry, Wrong>
+    ensures { result ≡ entry_by names.now counter operands.now verb }
 {
     match verb {
-        Some(Verb::Lone(command)) => lone_typed(command, operands),
-        Some(Verb::Address(command)) => address_typed(names, counter, command, operands),
-        Some(Verb::Number(command)) => number_typed(command, operands),
-        Some(Verb::NumberAddress(form)) => optimum_entry(names, counter, form, operands),
-        Some(Verb::Range(command)) => range_typed(names, counter, command, operands),
-        Some(Verb::ScaledRange) => numbers_entry(names, counter, operands),
-        Some(Verb::CountedRange) => look_entry(names, counter, operands),
-        Some(Verb::Word) => put_typed(names, counter, operands),
-        Some(Verb::Command) => help_typed(operands),
-        Some(Verb::Text | Verb::Key | Verb::Source | Verb::File | Verb::Line | Verb::End) | None =>
-            Entry::Misformed,
+        Verb::Lone(command) => lone_entry(command, operands),
+        Verb::Address(command) => address_entry(names, counter, command, operands),
+        Verb::Number(command) => number_entry(command, operands),
+        Verb::NumberAddress(form) => optimum_entry(names, counter, form, operands),
+        Verb::Range(command) => range_entry(names, counter, command, operands),
+        Verb::ScaledRange => numbers_entry(names, counter, operands),
+        Verb::CountedRange => look_entry(names, counter, operands),
+        Verb::Word => put_entry(names, counter, operands),
+        Verb::Command => read_of(verb, help_asked(operands)),
+        Verb::Text | Verb::Key | Verb::Source | Verb::File | Verb::Line | Verb::End => Err(
+            Wrong::Operands(verb),
+        ),
     }
 }
 
@@ -572,97 +596,75 @@ pub(crate) fn in_form(form: RecordForm, entry: Entry) -> Entry
 }
 
 /// A line in the monitor's own forms.
-fn plain_entry(names: &[(Name, u16)], counter: Address, line: &[u8]) -> Entry
+fn plain_entry(names: &[(Name, u16)], counter: Address, line: &[u8]) -> Result<Entry, Wrong>
     ensures { result ≡ plain_entry names.now counter line.now }
 {
     let Split { word, rest } = split_word(line);
-    entry_by(names, counter, verb_named(word), rest)
-}
-
-/// A command of scripts, or a line in the monitor's own forms.
-fn command_entry(names: &[(Name, u16)], counter: Address, line: &[u8]) -> Entry
-    ensures { result ≡ command_entry names.now counter line.now }
-{
-    let Asked { command, text: _ } = asked_in(line);
-    match command {
-        Some(command) => Entry::Script(command),
-        None => plain_entry(names, counter, line),
+    match verb_named(word) {
+        Some(verb) => entry_by(names, counter, verb, rest),
+        None => Err(name_wrong(word)),
     }
 }
 
-/// Whether nothing is asked for, since a line is in no command's form.
-fn is_misformed(entry: Entry) -> bool
-    ensures { result ≡ is_misformed entry }
+/// What is asked for by a whole line.
+fn asked_by(read: Result<Entry, Wrong>) -> Entry
+    ensures { result ≡ asked_by read }
 {
-    matches!(entry, Entry::Misformed)
-}
-
-/// Whether another line comes after a command.
-fn is_line_verb(verb: Option<Verb>) -> bool
-    ensures { result ≡ option_map_or is_line_verb verb false }
-{
-    matches!(verb, Some(Verb::Line))
-}
-
-/// Of a line that is in no command's form the part that is wrong: the line after `json`, where that is in no form itself.
-#[tactic(auto, unfolding(crate::specs::Entry::wrong_part))]
-pub(crate) fn wrong_part<'a>(names: &[(Name, u16)], counter: Address, line: &'a [u8]) -> &'a [u8]
-    ensures { result.now ≡ wrong_part names.now counter line.now }
-{
-    let Split { word, rest } = split_word(line);
-    if is_line_verb(verb_named(word))
-        && !has_no_word(rest)
-        && is_misformed(command_entry(names, counter, rest))
-    {
-        rest
-    } else {
-        line
+    match read {
+        Ok(entry) => entry,
+        Err(wrong) => Entry::Misformed(Part::Line, wrong),
     }
 }
 
-/// What is asked for by objects of JSON; nothing where its reply is not for programs.
-fn objects_of(entry: Entry) -> Entry
-    ensures { result
-        ≡ (if is_for_programs entry then as_objects entry else Entry.Misformed) }
+/// Whether a line is not there, or is a command of scripts.
+fn is_none_or_script(line: &[u8]) -> bool
+    ensures { result ≡ (has_no_word line.now || is_some (command_of line.now)) }
 {
-    if is_for_programs(&entry) {
-        as_objects(entry)
-    } else {
-        Entry::Misformed
+    has_no_word(line) || asked_in(line).command.is_some()
+}
+
+/// What is asked for by a line after `json`, of which this was read; its reply is objects of JSON.
+fn asked_as_objects(line: &[u8], read: Result<Entry, Wrong>) -> Entry
+    ensures { result ≡ asked_as_objects line.now read }
+{
+    match read {
+        Ok(entry) if is_for_programs(&entry) => as_objects(entry),
+        Err(wrong) if !is_none_or_script(line) => Entry::Misformed(Part::AfterName, wrong),
+        _ => asked_by(Err(Wrong::Operands(Verb::Line))),
     }
 }
 
-/// A line that asks by another one for programs, whose reply is objects of JSON.
-#[tactic(auto, unfolding(crate::specs::Entry::json_entry))]
-fn json_entry(names: &[(Name, u16)], counter: Address, line: &[u8]) -> Entry
-    ensures { result ≡ json_entry names.now counter line.now }
+/// A command with its operands, or one that asks by another line for programs.
+fn typed_by(names: &[(Name, u16)], counter: Address, verb: Verb, operands: &[u8]) -> Entry
+    ensures { result ≡ typed_by names.now counter operands.now verb }
 {
-    objects_of(plain_entry(names, counter, line))
+    match verb {
+        Verb::Line => asked_as_objects(operands, plain_entry(names, counter, operands)),
+        verb => asked_by(entry_by(names, counter, verb, operands)),
+    }
 }
 
-/// The same, or a line by itself.
-#[tactic(auto, unfolding(crate::specs::Entry::typed_by))]
-fn typed_by(names: &[(Name, u16)], counter: Address, line: &[u8]) -> Entry
-    ensures { result ≡ asked_by (typed_by names.now counter (after_word line.now))
-        (named verb_names (first_word line.now)) }
+/// A line that is no command of scripts.
+#[tactic(auto, unfolding(crate::specs::Entry::typed_entry))]
+fn typed_entry(names: &[(Name, u16)], counter: Address, line: &[u8]) -> Entry
+    ensures { result ≡ typed_entry names.now counter line.now }
 {
     let Split { word, rest } = split_word(line);
     match verb_named(word) {
-        Some(Verb::Line) => json_entry(names, counter, rest),
-        verb => entry_by(names, counter, verb, rest),
+        Some(verb) => typed_by(names, counter, verb, rest),
+        None => asked_by(Err(name_wrong(word))),
     }
 }
 
 /// What a line asks for: a command of scripts, or one of the monitor.
 fn typed_line(names: &[(Name, u16)], counter: Address, line: &[u8]) -> Entry
     ensures { result ≡ option_map_or Entry.Script (command_of line.now)
-        (asked_by (typed_by names.now counter (after_word line.now))
-        (named verb_names (first_word line.now))) }
+        (typed_entry names.now counter line.now) }
 {
     let Asked { command, text: _ } = asked_in(line);
     match command {
         Some(command) => Entry::Script(command),
-        None => typed_by(names, counter, line),
+        None => typed_entry(names, counter, line),
     }
 }
 

@@ -3,12 +3,14 @@
 
 pub use data_question::DataQuestion;
 pub use entry::Entry;
+pub use mistake::Mistake;
 pub use monitor::Monitor;
 pub use progress::{Progress, Silence};
 pub use question::Question;
 pub use scaled::Point;
 pub use telling::{Report, Telling};
 pub use verb::{AddressCommand, LoneCommand, NumberCommand, RangeCommand, Verb};
+pub use wrong::{LineWord, Part, Wrong};
 
 mod closing;
 mod data_question;
@@ -18,6 +20,7 @@ mod form;
 mod going;
 mod labels;
 pub mod laws;
+mod mistake;
 mod monitor;
 mod operating;
 mod performing;
@@ -29,3 +32,4 @@ mod run_end;
 mod scaled;
 mod telling;
 mod verb;
+mod wrong;

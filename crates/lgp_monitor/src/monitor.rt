@@ -19,9 +19,9 @@ ghost use Rattle.lgp_monitor.specs.Reasons.{refused_text};
 ghost use Rattle.lgp_monitor.specs.Telling.{reported_text};
 
 use crate::closing::{is_source_end, push_closing};
-use crate::entry::{Entry, entry_of, in_form, wrong_part};
+use crate::entry::{Entry, entry_of, in_form};
 use crate::file_texts::{mount_tape, restore};
-use crate::form::{push_form_line, push_help, push_misformed};
+use crate::form::{push_form_line, push_help};
 use crate::going::go;
 use crate::operating::operate;
 use crate::performing::{explain, keep_command};
@@ -30,6 +30,7 @@ use crate::question::push_answer;
 use crate::reason::{push_refused, push_run_end};
 use crate::telling::{Telling, run_told};
 use crate::verb::Verb;
+use crate::wrong::{Part, Wrong, push_misformed};
 use lgp_command::{Command, Count, is_comment, text_after_word};
 use lgp_fields::RecordForm;
 use lgp_script::{Laboratory, Refusal, Reply};
@@ -184,20 +185,15 @@ fn misform<A: Allocator + Copy>(
     alloc: A,
     recorder: &mut Recorder<Laboratory<A>, A>,
     line: &LineBytes,
+    part: Part,
+    wrong: &Wrong,
     reply: &mut Vec<u8, A>,
 ) -> Result<(), AllocError>
     ensures { (text : List ℕ) → line.now ≡ kept_of text
         → OnOk result (IsAnswered reply.old.items reply.new.items recorder.new
-        (answer_of recorder.old Entry.Misformed line.now)) }
+        (answer_of recorder.old (Entry.Misformed part wrong.now) line.now)) }
 {
-    let laboratory = recorder.answers();
-    let (names, counter) = (laboratory.labels(), laboratory.debugger().look().counter);
-    push_misformed(
-        reply,
-        names,
-        counter,
-        wrong_part(names, counter, line.front()),
-    )?;
+    push_misformed(reply, line.front(), part, wrong)?;
     let mut refusal = Vec::new(alloc);
     recorder.answer_kept(line, &mut refusal)
 }
@@ -245,7 +241,7 @@ fn perform<A: Allocator + Copy, P: Progress>(
 {
     match entry {
         Entry::Itself => pass_over(alloc, recorder, line, reply),
-        Entry::Misformed => misform(alloc, recorder, line, reply),
+        Entry::Misformed(part, wrong) => misform(alloc, recorder, line, part, &wrong, reply),
         Entry::Script(command) => {
             let text = text_after_word(line.front());
             explain(alloc, recorder, &command, text, progress, reply)

@@ -165,10 +165,7 @@ impl Teller for AddedUp {
             return Err(NO_MEMORY);
         };
         let outcome = profile_run(debugger, limit, &mut profile);
-        let orders = match outcome {
-            Ok(ran) => ran.orders,
-            Err(fault) => fault.orders,
-        };
+        let orders = orders_in(&outcome);
         if push_added_up(text, self.form, orders, &profile, names).is_err() {
             return Err(NO_MEMORY);
         }

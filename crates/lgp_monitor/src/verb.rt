@@ -2,7 +2,7 @@
 
 ghost use Rattle.std.specs.Prelude.{◌≡◌, drop};
 ghost use Rattle.lgp_text.specs.NamedValues.{named, pairs_of};
-ghost use Rattle.lgp_monitor.specs.Verbs.{only_asks, operands_form, operands_kind, takes_address, verb_names};
+ghost use Rattle.lgp_monitor.specs.Verbs.{only_asks, operands_form, operands_kind, verb_names};
 
 use crate::telling::Report;
 use lgp_fields::RecordForm;
@@ -286,14 +286,4 @@ pub fn only_asks(verb: Verb) -> bool
         Verb::Range(_) | Verb::ScaledRange | Verb::CountedRange | Verb::Command => true,
         _ => false,
     }
-}
-
-/// Whether an address comes first after a command's name.
-pub fn takes_address(verb: Verb) -> bool
-    ensures { result ≡ takes_address verb }
-{
-    matches!(
-        verb,
-        Verb::Address(_) | Verb::Range(_) | Verb::ScaledRange | Verb::CountedRange | Verb::Word
-    )
 }
