@@ -933,6 +933,7 @@ async function paces(browser) {
     await noteSaid(browser);
     await browser.go("fast");
     const fast = await pace(browser, 3000);
+    await browser.waitFor("said.length > 4");
     assert.ok(fast.pictures >= LEAST_PICTURES, `${fast.pictures} pictures a second in a fast run`);
     const long = await browser.value("long");
     assert.ok(Math.max(0, ...long) <= LONGEST_TASK, `a task of ${Math.max(...long)} milliseconds in a fast run`);
