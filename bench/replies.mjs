@@ -1,6 +1,6 @@
 // What replies for programs cost. By the module in node: `json source-data` of a source of 4,000 lines, `look`, and an order with its account.
-// By the proved monitor, where ./prove lgp30m has made it and valgrind is installed: the instructions of `trace-data 1`, as lines and as JSON, after
-// 5,000 orders, so that 4,096 steps are kept: 2,000 lines less 1,000.
+// By the proved monitor, where ./prove lgp30m has made it and valgrind is installed: the instructions of `trace-data 1`, as lines and as JSON, of
+// `run 1` and of two comments, after 5,000 orders, so that 4,096 steps are kept: 2,000 lines less 1,000.
 //
 //     node bench/replies.mjs
 //
@@ -64,4 +64,4 @@ console.log(`source-data of ${LINES} lines: ${sourceData().toFixed(1)} ms by the
 console.log(`a look at 64 words: ${afterEach("json look 0000 64 0").toFixed(2)} ms by the module`);
 console.log(`an order with its account: ${afterEach("json trace-data 1").toFixed(2)} ms by the module`);
 if (!existsSync(program)) console.log("trace-data: ./prove lgp30m makes the program whose instructions are counted");
-else for (const line of ["trace-data 1", "json trace-data 1"]) console.log(`${line}: ${Math.round((instructions(line, 2000) - instructions(line, 1000)) / 1000).toLocaleString("en")} instructions by the monitor`);
+else for (const line of ["trace-data 1", "json trace-data 1", "run 1", ";", "; of twenty-one bytes"]) console.log(`${line}: ${Math.round((instructions(line, 2000) - instructions(line, 1000)) / 1000).toLocaleString("en")} instructions by the monitor`);
