@@ -1,0 +1,4 @@
+pub mod Orders
+pub mod PastLemmas
+pub mod Refusals
+pub mod Runs

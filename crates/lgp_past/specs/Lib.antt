@@ -1,0 +1,10 @@
+pub mod Past
+pub mod PastInside
+pub mod Timeline
+pub use Rattle.lgp_debugger.specs.Debugging
+pub use Rattle.lgp_debugger.specs.Run
+pub use Rattle.lgp_history.specs.Step
+pub use Rattle.lgp_history.specs.Steps
+pub use Rattle.lgp_table.specs.State
+pub use Rattle.lgp_table.specs.After
+pub use Rattle.lgp_table.specs.Interleaving

@@ -1,0 +1,5 @@
+pub mod When
+pub mod Until
+pub mod WhenInside
+pub use Rattle.lgp_debugger.specs.Run
+pub use Rattle.lgp_table.specs.After
