@@ -1,23 +1,22 @@
 //! The monitor's program: it hands the library the words of the command line, standard input, standard output and standard error.
 #![tactic(auto)]
 
-ghost use Rattle.std.specs.Prelude.{None};
-
 use lgp_desk::{Files, Manner, obey_session};
-use lgp_lab::{FeedOf, READS, SinkOf, WordFault};
+use lgp_lab::{Failed, FeedOf, READS, SinkOf, WordFault};
 use lgp_monitor::Progress;
 use std::fs::File;
-use std::io::{IsTerminal, Write};
+use std::io::{IsTerminal, Read, Write};
 use std::process::ExitCode;
 use std::{env, fs, io};
 
 /// What comes after a name in those that are tried for a new file beside it.
 const ENDINGS: [&str; 4] = [".new", ".new1", ".new2", ".new3"];
 
-/// The files of the system, by their paths.
-#[derive(Clone, Copy, Drop)]
+/// The files of the system, by their paths, and the one that is open.
+#[derive(Drop)]
 struct HostFiles<'a> {
     rt: &'a HostRuntime,
+    open: Option<File>,
 }
 
 /// A new file beside the one of a name, with its own name. Where there is one of that name, further names are tried.
@@ -56,18 +55,26 @@ fn replace_file(rt: &HostRuntime, name: &str, text: &[u8]) -> io::Result<()> {
 }
 
 impl Files for HostFiles<'_> {
-    ghost known = { λ files name. None };
+    // Nothing is known of what files hold.
+    ghost answer = { λ files call after. Unit {0} };
 
-    type Reader = FeedOf<File>;
+    fn open(&mut self, name: &str) -> bool {
+        self.open = fs::open(self.rt, name).ok();
+        self.open.is_some()
+    }
 
-    fn open(&self, name: &str) -> Option<FeedOf<File>> {
-        match fs::open(self.rt, name) {
-            Ok(file) => Some(FeedOf::new(file, READS)),
-            Err(_) => None,
+    fn read(&mut self, buffer: &mut [u8]) -> Result<usize, Failed> {
+        match &mut self.open {
+            Some(file) => file.read(buffer).map_err(|_| Failed),
+            None => Err(Failed),
         }
     }
 
-    fn keep(&self, name: &str, text: &[u8]) -> bool {
+    fn close(&mut self) {
+        self.open = None;
+    }
+
+    fn keep(&mut self, name: &str, text: &[u8]) -> bool {
         replace_file(self.rt, name, text).is_ok()
     }
 }
@@ -141,7 +148,7 @@ fn obey(rt: &HostRuntime, words: Result<&[String], WordFault>) -> u8 {
         rt.alloc(),
         words,
         manner(rt),
-        &HostFiles { rt },
+        &mut HostFiles { rt, open: None },
         progress(rt),
         &mut input,
         &mut output,

@@ -1,6 +1,6 @@
 //! Numbers as lines have them.
 
-ghost use Rattle.std.specs.Prelude.{◌≡◌};
+ghost use Rattle.std.specs.Prelude.{◌≡◌, ◌≤◌};
 ghost use Rattle.lgp_command.specs.Command.{number_at};
 ghost use Rattle.lgp_command.specs.Operands.{IsCount};
 
@@ -44,6 +44,14 @@ impl Count {
             Some(number) => Some(Count { number }),
             None => None,
         }
+    }
+
+    /// A number that is no greater.
+    pub fn lowered(self, number: u64) -> Count
+        requires { number ≤ self }
+        ensures { result ≡ number }
+    {
+        Count { number }
     }
 
     /// The number.

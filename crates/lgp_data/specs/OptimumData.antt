@@ -22,7 +22,7 @@ freedom_word freedoms.NamedByChanged = codes "changed"
 
 abbrev pub freedom_sentence : Freedom → List ℕ
 freedom_sentence freedoms.Free = codes "it may be moved"
-freedom_sentence freedoms.Unnamed = codes "no order named it, so its sector makes no difference"
+freedom_sentence freedoms.Unnamed = codes "no order waited for it or stood there, so its sector makes no difference"
 freedom_sentence freedoms.Performed =
     codes "it should not be moved, because it was performed as an order"
 freedom_sentence freedoms.NamedByChanged =

@@ -1,5 +1,5 @@
 -- Part of the public promise: the lines of a source as records, also while the source has faults.
-use Rattle.std.specs.Prelude.{ℕ, ◌+◌, ◌++◌, ◌==◌, nat_lt, if◌then◌else◌, Option, Some}
+use Rattle.std.specs.Prelude.{ℕ, ◌+◌, ◌++◌, ◌==◌, nat_lt, if◌then◌else◌, Option, None, Some}
 use Rattle.std.specs.Prelude.{List, [], ◌∷◌, codes, drop, length, option_and_then}
 use Rattle.std.specs.Option.{option_map_or}
 use Rattle.lgp_word.specs.Digits.{digits_of}
@@ -8,6 +8,7 @@ use Rattle.lgp_assembler.specs.KindNames.{kind_name}
 use Rattle.lgp_assembler.specs.Marks.{part_of}
 use Rattle.lgp_assembler.specs.Survey.{survey_of}
 use Rattle.lgp_assembler.specs.declared.refusal.FaultKind.{FaultKind}
+use Rattle.lgp_assembler.specs.declared.refusal.FaultKind.TheVariants.{AfterEnd}
 use Rattle.lgp_assembler.specs.declared.surveying.LineSurvey.{LineSurvey}
 use Rattle.lgp_fields.specs.Plain.{Plain, PlainField, field, Nothing, Number, Numbers, Text}
 use Rattle.lgp_fields.specs.Printed.{record_in}
@@ -45,6 +46,12 @@ digits_value word = option_map_or (λ it. Text (digits_of it)) word Nothing
 abbrev pub fault_value : Option FaultKind → Plain
 fault_value fault = option_map_or (λ kind. Text (kind_name kind)) fault Nothing
 
+-- the place of a line's word or label: a line after the end line has no word, and its label names
+-- nothing
+abbrev pub place_told : Option FaultKind → Option ℕ → Option ℕ
+place_told (Some AfterEnd) place = None
+place_told fault place = place
+
 -- the columns of what is at fault
 abbrev pub fault_part : Option FaultKind → SourceLine → Option (ℕ × ℕ)
 fault_part fault line = option_and_then (λ kind. part_of kind line) fault
@@ -57,7 +64,7 @@ line_record line known =
     ∷ field (codes "operands") (spans_value line.operands)
     ∷ field (codes "comment") (comment_value line.text)
     ∷ field (codes "declared") (number_value known.declared)
-    ∷ field (codes "place") (place_value known.place)
+    ∷ field (codes "place") (place_value (place_told known.fault known.place))
     ∷ field (codes "digits") (digits_value known.word)
     ∷ field (codes "fault") (fault_value known.fault)
     ∷ field (codes "at") (part_value (fault_part known.fault line))

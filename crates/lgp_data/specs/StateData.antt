@@ -1,5 +1,6 @@
 -- Part of the public promise: the state of a machine at a boundary as a record: what the panel shows,
--- what is live, what lets the machine go on, which rule holds here, and how many steps are kept.
+-- what is live, what lets the machine go on, which rule holds here, how many orders can be taken
+-- back, and how many steps are kept.
 use Rattle.std.specs.Prelude.{ℕ, ◌++◌, ◌==◌, Bool, false, if◌then◌else◌, Option, Some, None}
 use Rattle.std.specs.Prelude.{List, [], ◌∷◌, codes, length, option_map, position}
 use Rattle.std.specs.Option.{option_map_or}
@@ -14,6 +15,7 @@ use Rattle.lgp_text.specs.PanelWords.{mode_text, on_text, status_text}
 use Rattle.lgp_debugger.specs.Debugging.{Debugging}
 use Rattle.lgp_history.specs.Hits.{goes_at}
 use Rattle.lgp_history.specs.Origins.{latest_change}
+use Rattle.lgp_history.specs.Steps.{orders_in}
 use Rattle.lgp_history.specs.declared.origin.Changer.{Changer}
 use Rattle.lgp_history.specs.declared.origin.Changer.TheVariants.{Order}
 use Rattle.lgp_history.specs.declared.rule.Rule.{Rule}
@@ -76,9 +78,10 @@ rule_here d = position (holds_here d) d.rules
 -- ---- what is live
 
 -- which buttons and keys would do something, what the machine is doing, what lets it go on, the rule
--- that holds here, and how many steps are kept
-unfoldable pub live_fields : Panel → Option ℕ → ℕ → List PlainField
-live_fields panel rule kept =
+-- that holds here, how many orders can be taken back, and how many steps are kept: these orders, and
+-- presses, pauses, tapes and words put by hand beside them
+unfoldable pub live_fields : Panel → Option ℕ → ℕ → ℕ → List PlainField
+live_fields panel rule orders steps =
     field (codes "live-normal") (YesNo (is_live panel (actions.Mode Normal)))
     ∷ field (codes "live-oneop") (YesNo (is_live panel (actions.Mode OneOperation)))
     ∷ field (codes "live-manual") (YesNo (is_live panel (actions.Mode Manual)))
@@ -94,7 +97,8 @@ live_fields panel rule kept =
     ∷ field (codes "state-sentence") (Text (state_sentence panel.status))
     ∷ field (codes "way-sentence") (Text (way_sentence panel.status panel.mode))
     ∷ field (codes "rule") (option_map_or Number rule Nothing)
-    ∷ field (codes "kept") (Number kept)
+    ∷ field (codes "kept") (Number orders)
+    ∷ field (codes "kept-steps") (Number steps)
     ∷ []
 
 -- what the panel shows: the registers by their digits, and all else
@@ -109,4 +113,4 @@ unfoldable pub state_record : List (List ℕ × ℕ) → Debugging → List Plai
 state_record names d =
     register_fields names (look_of d.state)
     ++ (panel_fields (look_of d.state) (length d.state.core.tape.left)
-    ++ live_fields d.state.core.panel (rule_here d) (length d.steps))
+    ++ live_fields d.state.core.panel (rule_here d) (orders_in d.steps) (length d.steps))

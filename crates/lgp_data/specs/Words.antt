@@ -1,6 +1,6 @@
 -- Part of the public promise: words and names as the values of fields.
-use Rattle.std.specs.Prelude.{ℕ, ◌-◌, ◌/◌, ◌%◌, ◌^◌, ◌==◌, ◌&&◌, true, false, if◌then◌else◌}
-use Rattle.std.specs.Prelude.{Bool, List, [], ◌++◌, find, is_some, Option}
+use Rattle.std.specs.Prelude.{ℕ, ◌+◌, ◌-◌, ◌/◌, ◌%◌, ◌^◌, ◌==◌, ◌&&◌, true, false}
+use Rattle.std.specs.Prelude.{Bool, if◌then◌else◌, List, [], ◌++◌, find, is_some, Option}
 use Rattle.std.specs.Option.{option_map_or}
 use Rattle.lgp_word.specs.Digits.{address_digits}
 use Rattle.lgp_word.specs.Order.{address_at, decoded, op_at, op_letter, sign_of, takes_minus}
@@ -9,9 +9,11 @@ use Rattle.lgp_fields.specs.Seen.{label_text, order_text}
 use Rattle.lgp_word.specs.declared.order.Op.{Op}
 use Rattle.lgp_word.specs.declared.order.Op.TheVariants.{Z, I, P}
 
--- 32 bits as a whole number with its sign, one half of them: the binary point comes after bit 30
+-- 32 bits as a whole number with its sign, one half of them rounded down: the binary point comes
+-- after bit 30. The accumulator has one bit more than a word, and its number is that of the word
+-- which h stores from it.
 abbrev pub number_size : ℕ → ℕ
-number_size bits = if sign_of bits then (2 ^ 32 - bits) / 2 else bits / 2
+number_size bits = if sign_of bits then (2 ^ 32 + 1 - bits) / 2 else bits / 2
 
 unfoldable pub whole_number : ℕ → Plain
 whole_number bits = Signed (sign_of bits) (number_size bits)

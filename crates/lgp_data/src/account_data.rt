@@ -9,12 +9,12 @@ ghost use Rattle.lgp_fields.specs.Printed.{record_in};
 ghost use Rattle.lgp_fields.specs.Seen.{fields_seen, value_seen};
 ghost use Rattle.lgp_data.specs.AccountData.{account_in, account_record, at_value, begun_fields, digits_and_number, order_value, origin_fields, over_value, paper_fields, put_at, put_by, some_count, status_value, stored_fields, stored_operand, stored_order};
 ghost use Rattle.lgp_data.specs.ShowData.{sign_value};
-ghost use Rattle.lgp_data.specs.Words.{labelled_place, number_size, whole_number};
+ghost use Rattle.lgp_data.specs.Words.{labelled_place, whole_number};
 ghost use Rattle.lgp_word.specs.Order.{sign_of};
 
 use crate::paper_data::sign_value;
 use crate::why_data::{changer_of, clock_of, lost_digits, lost_number, order_of, orders_ago};
-use crate::words::{labelled_order, labelled_place};
+use crate::words::{labelled_order, labelled_place, number_size};
 use lgp_assembler::Name;
 use lgp_fields::{Field, RecordForm, Value, push_joined};
 use lgp_flexo::Code;
@@ -128,18 +128,6 @@ fn minus_text(bits: u32) -> &'static [u8]
     ensures { result.now ≡ (if sign_of bits then codes "-" else []) }
 {
     if bits >= 1 << 31 { b"-" } else { b"" }
-}
-
-/// Half of a word's bits as a number without its sign.
-fn number_size(bits: u32) -> u64
-    ensures { result ≡ number_size bits }
-{
-    let bits = u64::from(bits);
-    if bits >= 1 << 31 {
-        ((1 << 32) - bits) / 2
-    } else {
-        bits / 2
-    }
 }
 
 /// A word by its digits and as a number.

@@ -36,7 +36,8 @@ fn freedom_sentence(free: Freedom) -> &'static [u8]
 {
     match free {
         Freedom::Free => b"it may be moved",
-        Freedom::Unnamed => b"no order named it, so its sector makes no difference",
+        Freedom::Unnamed =>
+            b"no order waited for it or stood there, so its sector makes no difference",
         Freedom::Performed => b"it should not be moved, because it was performed as an order",
         Freedom::NamedByChanged => {
             b"it should not be moved, because a changed order or one only in the register named it"

@@ -5,13 +5,13 @@ ghost use Rattle.lgp_source.specs.Seen.{line_seen, token_seen};
 ghost use Rattle.lgp_source.specs.Source.{lines_of};
 ghost use Rattle.lgp_fields.specs.Printed.{record_in};
 ghost use Rattle.lgp_fields.specs.Seen.{fields_seen, value_seen};
-ghost use Rattle.lgp_data.specs.SourceData.{comment_value, digits_value, fault_part, fault_value, line_record, missing_record, next_record, number_value, part_value, source_in, source_lines_in, span_value, spans_value};
+ghost use Rattle.lgp_data.specs.SourceData.{comment_value, digits_value, fault_part, fault_value, line_record, missing_record, next_record, number_value, part_value, place_told, source_in, source_lines_in, span_value, spans_value};
 
 use crate::words::place_value;
 use lgp_assembler::{FaultKind, LineSurvey, part_of, survey};
 use lgp_fields::{Field, RecordForm, Value, push_record};
 use lgp_source::{Line, Lines, Token, before_comment};
-use lgp_word::Word;
+use lgp_word::{Address, Word};
 use std::alloc::{AllocError, Allocator};
 
 /// The columns of a token.
@@ -101,6 +101,16 @@ fn fault_value(fault: Option<FaultKind>) -> Value<'static>
     }
 }
 
+/// The place of a line's word or label. A line after the end line has no word, and its label names nothing.
+fn place_told(known: &LineSurvey) -> Option<Address>
+    ensures { result ≡ place_told known.now.fault known.now.place }
+{
+    match known.fault {
+        Some(FaultKind::AfterEnd) => None,
+        _ => known.place,
+    }
+}
+
 /// What is known of a line.
 #[tactic(auto, unfolding(crate::specs::SourceData::line_record))]
 fn line_record(line: &Line, known: &LineSurvey) -> [Field<'static>; 11]
@@ -113,7 +123,7 @@ fn line_record(line: &Line, known: &LineSurvey) -> [Field<'static>; 11]
         (b"operands", spans_value(line.operands)),
         (b"comment", comment_value(line.text)),
         (b"declared", number_value(known.declared)),
-        (b"place", place_value(&known.place)),
+        (b"place", place_value(&place_told(known))),
         (b"digits", digits_value(known.word)),
         (b"fault", fault_value(known.fault)),
         (b"at", part_value(fault_part(known.fault, line))),

@@ -4,6 +4,7 @@ ghost use Rattle.std.specs.Prelude.{◌≡◌, ◌++◌, ◌∷◌, [], OnOk, co
 ghost use Rattle.std.specs.Option.{option_map_or};
 ghost use Rattle.lgp_word.specs.Digits.{address_digits, digits_of};
 ghost use Rattle.lgp_history.specs.Hits.{goes_at};
+ghost use Rattle.lgp_history.specs.Steps.{orders_in};
 ghost use Rattle.lgp_machine.specs.Look.{look_of};
 ghost use Rattle.lgp_table.specs.Console.{is_live, is_waiting, takes_codes};
 ghost use Rattle.lgp_fields.specs.Plain.{field, Nothing, Number, Text, YesNo};
@@ -144,19 +145,20 @@ fn rule_value(rule: Option<usize>) -> Value<'static>
     }
 }
 
-/// Which buttons and keys would do something, what the machine is doing, what lets it go on, the rule that holds here, and how many
-/// steps are kept.
+/// Which buttons and keys would do something, what the machine is doing, what lets it go on, the rule that holds here, how many orders can
+/// be taken back, and how many steps are kept.
 #[tactic(auto, unfolding(crate::specs::StateData::live_fields))]
 fn live_fields<H: History<B>, B: Allocator>(
     debugger: &Debugger<H, B>,
     status: Status,
     mode: Mode,
     rule: Option<usize>,
-) -> [Field<'static>; 16]
+) -> [Field<'static>; 17]
     requires status { status ≡ debugger.now.state.core.panel.status }
     requires mode { mode ≡ debugger.now.state.core.panel.mode }
     ensures { fields_seen result
-        ≡ live_fields debugger.now.state.core.panel rule (length debugger.now.steps) }
+        ≡ live_fields debugger.now.state.core.panel rule (orders_in debugger.now.steps)
+        (length debugger.now.steps) }
 {
     [
         (
@@ -183,7 +185,8 @@ fn live_fields<H: History<B>, B: Allocator>(
         (b"state-sentence", Value::Text(state_sentence(status))),
         (b"way-sentence", Value::Text(way_sentence(status, mode))),
         (b"rule", rule_value(rule)),
-        (b"kept", Value::Number(debugger.kept())),
+        (b"kept", Value::Number(debugger.orders_kept())),
+        (b"kept-steps", Value::Number(debugger.kept())),
     ]
 }
 

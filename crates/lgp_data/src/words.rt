@@ -1,25 +1,32 @@
 //! Words and names as the values of fields.
 
-ghost use Rattle.std.specs.Prelude.{◌≡◌, ◌-◌, ◌/◌, ◌^◌, ◌&&◌, [], if◌then◌else◌};
-ghost use Rattle.lgp_word.specs.Order.{op_at, sign_of, takes_minus};
+ghost use Rattle.std.specs.Prelude.{◌≡◌, ◌&&◌, [], if◌then◌else◌};
+ghost use Rattle.lgp_word.specs.Order.{op_at, takes_minus};
 ghost use Rattle.lgp_fields.specs.Seen.{value_seen};
-ghost use Rattle.lgp_data.specs.Words.{bits_order, label_at, labelled_order, labelled_place, name_of, performed_order, place_value, refers, whole_number, word_order};
+ghost use Rattle.lgp_data.specs.Words.{bits_order, label_at, labelled_order, labelled_place, name_of, number_size, performed_order, place_value, refers, whole_number, word_order};
 
 use lgp_assembler::Name;
 use lgp_fields::Value;
 use lgp_word::{Address, Op, Word, decode, parts};
 
-/// 32 bits as a whole number with its sign, with its point after place 30.
+/// 32 bits as a whole number without its sign, with its point after place 30. With its sign it is rounded down.
+pub(crate) fn number_size(bits: u32) -> u64
+    ensures { result ≡ number_size bits }
+{
+    let bits = u64::from(bits);
+    if bits >= 1 << 31 {
+        ((1 << 32) + 1 - bits) / 2
+    } else {
+        bits / 2
+    }
+}
+
+/// The same with its sign.
 #[tactic(auto, unfolding(crate::specs::Words::whole_number))]
 pub(crate) fn whole_number(bits: u32) -> Value<'static>
     ensures { value_seen result ≡ whole_number bits }
 {
-    let bits = u64::from(bits);
-    if bits >= 1 << 31 {
-        Value::Signed(true, ((1 << 32) - bits) / 2)
-    } else {
-        Value::Signed(false, bits / 2)
-    }
+    Value::Signed(bits >= 1 << 31, number_size(bits))
 }
 
 /// Whether a word is performed as an order with a minus.

@@ -42,7 +42,7 @@ const RULE_LIMIT: usize = 64;
 const LONGEST_ORDER: u64 = 1 << 32;
 
 /// Whether a given number of word times from a clock on would pass the clock's end.
-fn passes_end(clock: u64, times: u64) -> bool
+pub fn passes_end(clock: u64, times: u64) -> bool
     ensures { IsTrue result ↔ (clock_end < clock + times) }
 {
     match clock.checked_add(times) {
@@ -529,6 +529,15 @@ impl<H: History<A>, A: Allocator> Debugger<H, A> {
             return Ok(());
         }
         self.history.back(orders, &mut self.machine)
+    }
+
+    /// Goes on with another machine in the place of this one. No step is kept afterwards; the rules stay.
+    pub fn go_on_with(&mut self, machine: Machine<A>)
+        requires { machine ≡ at_boundary machine.state }
+        ensures { self.new ≡ record self.old { state = machine.state; steps = [] } }
+    {
+        self.machine = machine;
+        self.history.clear();
     }
 
     /// How many steps are kept. Each of them leads to the next, and the last one to the present state.

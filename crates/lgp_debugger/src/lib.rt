@@ -6,6 +6,6 @@ mod fault;
 mod watch;
 mod watcher;
 
-pub use debugger::Debugger;
+pub use debugger::{Debugger, passes_end};
 pub use fault::{HitFault, IdleFault, Ran, Reason, RuleFault, RunFault, RunRefusal, StepFault};
 pub use watcher::{Quiet, WatchFault, Watcher};

@@ -1,12 +1,9 @@
 //! History by copies of the machine and by doing steps again.
 
 ghost use Rattle.std.specs.Prelude.{◌≡◌, false, ◌<◌, ◌≤◌, ◌+◌, ◌-◌, ◌%◌, ◌==◌, ◌^◌, ◌++◌, ◌∷◌, [], IfOk, OnOk, IsSome, length, drop, take, if◌then◌else◌, Some, None};
-ghost use Rattle.lgp_table.specs.Activity.{cost, next};
-ghost use Rattle.lgp_table.specs.Console.{is_at_rest};
-ghost use Rattle.lgp_machine.specs.Answers.{clock_end};
 ghost use Rattle.lgp_table.specs.State.{State};
 ghost use Rattle.lgp_table.specs.Interleaving.{at_boundary};
-ghost use Rattle.lgp_history.specs.Step.{Mount, plain};
+ghost use Rattle.lgp_history.specs.Step.{plain};
 ghost use Rattle.lgp_history.specs.Steps.{CanStep, is_order, orders_in, state_back, stepped, steps_back};
 ghost use Rattle.lgp_history.specs.CheckpointsInside.{IsNoted, hit_more, noted_after, played, played_to, start_of};
 ghost use Rattle.lgp_history.specs.Hits.{first_hit, last_hit};
@@ -15,9 +12,9 @@ use crate::changes::Record;
 use crate::history::{BackFault, History};
 use crate::records::CAPACITY_LIMIT;
 use crate::rule::Rule;
-use crate::step::{Step, Tape};
+use crate::step::Step;
 use circular_buffer::HeapCircularBuffer;
-use lgp_machine::{Machine, OrderFault};
+use lgp_machine::Machine;
 use std::alloc::{AllocError, Allocator, Global};
 use std::boxed::Box;
 use std::marker::Model;
@@ -101,64 +98,7 @@ impl<A: Allocator + Clone> Checkpoint<A> {
         ensures { OnOk result
             (machine.new ≡ at_boundary (stepped self.now.step machine.old.state)) }
     {
-        do_step(machine, &self.step)
-    }
-}
-
-/// Performs the activity that begins here.
-fn perform<A: Allocator>(machine: &mut Machine<A>) -> Result<(), AllocError>
-    requires boundary { machine.old ≡ at_boundary machine.old.state }
-    requires at_work { is_at_rest machine.old.state.core.panel.status ≡ false }
-    requires clock { machine.old.state.clock + cost machine.old.state ≤ clock_end }
-    ensures { OnOk result (machine.new ≡ at_boundary (next machine.old.state)) }
-{
-    match machine.next_order() {
-        Ok(_) => Ok(()),
-        Err(OrderFault::Memory) => Err(AllocError),
-        Err(OrderFault::Moving | OrderFault::AtRest | OrderFault::ClockEnd) => unreachable!(),
-    }
-}
-
-/// Mounts a tape that can be mounted.
-fn mount<A: Allocator>(machine: &mut Machine<A>, tape: Tape<A>) -> Result<(), AllocError>
-    requires boundary { machine.old ≡ at_boundary machine.old.state }
-    requires possible { CanStep (Mount tape) machine.old.state }
-    ensures { machine.new ≡ at_boundary (stepped (Mount tape) machine.old.state) }
-{
-    let Ok(()) = machine.mount(tape.into_codes()) else {
-        unreachable!()
-    };
-    Ok(())
-}
-
-/// Does a step that can be done.
-fn do_step<A: Allocator + Clone>(machine: &mut Machine<A>, step: &Step<A>) -> Result<(), AllocError>
-    requires boundary { machine.old ≡ at_boundary machine.old.state }
-    requires possible { CanStep (plain step.now) machine.old.state }
-    ensures { OnOk result
-        (machine.new ≡ at_boundary (stepped (plain step.now) machine.old.state)) }
-{
-    match step {
-        Step::Perform => perform(machine),
-        Step::Press(action) => {
-            let Ok(_) = machine.press(*action) else {
-                unreachable!()
-            };
-            Ok(())
-        }
-        Step::Idle(times) => {
-            let Ok(()) = machine.rest(*times) else {
-                unreachable!()
-            };
-            Ok(())
-        }
-        Step::Mount(tape) => mount(machine, tape.copy()?),
-        Step::Put(address, word) => {
-            let Ok(()) = machine.put(*address, *word) else {
-                unreachable!()
-            };
-            Ok(())
-        }
+        self.step.take(machine)
     }
 }
 

@@ -15,4 +15,4 @@ pub use history::{BackFault, History};
 pub use origin::{Changer, Origin, Origins, PastOrder};
 pub use records::{CAPACITY_LIMIT, Records};
 pub use rule::Rule;
-pub use step::{Step, Tape};
+pub use step::{Step, Tape, perform};

@@ -1,14 +1,15 @@
 //! Steps from one order boundary to another.
 
-ghost use Rattle.std.specs.Prelude.{◌≡◌, ◌≤◌, length, IfOk, IsTrue};
+ghost use Rattle.std.specs.Prelude.{◌≡◌, ◌≤◌, length, IfOk, IsTrue, OnErr, OnOk};
 ghost use Rattle.lgp_flexo.specs.Tape.{all_codes};
 ghost use Rattle.lgp_flexo.specs.TapeText.{tape_limit};
-ghost use Rattle.lgp_table.specs.Interleaving.{is_boundary};
-ghost use Rattle.lgp_history.specs.Step.{plain};
-ghost use Rattle.lgp_history.specs.Steps.{is_order};
+ghost use Rattle.lgp_table.specs.Activity.{next};
+ghost use Rattle.lgp_table.specs.Interleaving.{at_boundary, is_boundary};
+ghost use Rattle.lgp_history.specs.Step.{Mount, Perform, plain};
+ghost use Rattle.lgp_history.specs.Steps.{CanStep, is_order, stepped};
 
 use lgp_flexo::Code;
-use lgp_machine::Machine;
+use lgp_machine::{Machine, OrderFault};
 use lgp_table::Action;
 use lgp_word::{Address, Word};
 use std::alloc::{AllocError, Allocator, Global};
@@ -114,4 +115,63 @@ impl<A: Allocator + Clone> Step<A> {
             Step::Put(address, word) => Step::Put(*address, *word),
         })
     }
+}
+
+impl<A: Allocator + Clone> Step<A> {
+    /// Does the step, which can be done where the machine is; or a refused growth, and then the machine may be anywhere.
+    pub fn take(&self, machine: &mut Machine<A>) -> Result<(), AllocError>
+        requires boundary { machine.old ≡ at_boundary machine.old.state }
+        requires possible { CanStep (plain self.now) machine.old.state }
+        ensures { OnOk result
+            (machine.new ≡ at_boundary (stepped (plain self.now) machine.old.state)) }
+    {
+        match self {
+            Step::Perform => perform(machine),
+            Step::Press(action) => {
+                let Ok(_) = machine.press(*action) else {
+                    unreachable!()
+                };
+                Ok(())
+            }
+            Step::Idle(times) => {
+                let Ok(()) = machine.rest(*times) else {
+                    unreachable!()
+                };
+                Ok(())
+            }
+            Step::Mount(tape) => mount(machine, tape.copy()?),
+            Step::Put(address, word) => {
+                let Ok(()) = machine.put(*address, *word) else {
+                    unreachable!()
+                };
+                Ok(())
+            }
+        }
+    }
+}
+
+/// Performs the activity that begins here; where memory is refused for what it prints, the machine stays as it is.
+pub fn perform<A: Allocator>(machine: &mut Machine<A>) -> Result<(), AllocError>
+    requires boundary { machine.old ≡ at_boundary machine.old.state }
+    requires possible { CanStep Perform machine.old.state }
+    ensures performed { OnOk result (machine.new ≡ at_boundary (next machine.old.state)) }
+    ensures unchanged { OnErr result (machine.new ≡ machine.old) }
+{
+    match machine.next_order() {
+        Ok(_) => Ok(()),
+        Err(OrderFault::Memory) => Err(AllocError),
+        Err(OrderFault::Moving | OrderFault::AtRest | OrderFault::ClockEnd) => unreachable!(),
+    }
+}
+
+/// Mounts a tape that can be mounted.
+fn mount<A: Allocator>(machine: &mut Machine<A>, tape: Tape<A>) -> Result<(), AllocError>
+    requires boundary { machine.old ≡ at_boundary machine.old.state }
+    requires possible { CanStep (Mount tape) machine.old.state }
+    ensures { machine.new ≡ at_boundary (stepped (Mount tape) machine.old.state) }
+{
+    let Ok(()) = machine.mount(tape.into_codes()) else {
+        unreachable!()
+    };
+    Ok(())
 }

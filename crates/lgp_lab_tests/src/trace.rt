@@ -14,7 +14,8 @@ use crate::expect_eq;
 use lgp_machine::{Machine, OrderFault};
 use lgp_table::Action;
 use lgp_trace::laws::{
-    codes_pass, phases_read, phases_together, profiles, signs_are_word_times, words_stay,
+    codes_pass, dearest_places, phases_read, phases_together, profiles, signs_are_word_times,
+    words_stay,
 };
 use lgp_trace::{Account, Begun, Phases, Profile, profile_run};
 use lgp_word::{Address, Word};
@@ -270,4 +271,5 @@ fn the_laws_do_nothing(_rt: HostRuntime) {
     codes_pass();
     profiles();
     signs_are_word_times();
+    dearest_places();
 }

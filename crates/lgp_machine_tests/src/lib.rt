@@ -14,7 +14,11 @@ mod loader;
 #[cfg(test)]
 mod machine;
 #[cfg(test)]
+mod past;
+#[cfg(test)]
 mod phases;
+#[cfg(test)]
+mod when;
 
 #[cfg(test)]
 use lgp_limited::Limited;

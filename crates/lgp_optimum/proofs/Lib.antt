@@ -4,4 +4,5 @@ pub mod TurnsLemmas
 pub mod UsesLemmas
 pub mod OptimumLemmas
 pub mod GainLemmas
+pub mod RankingLaw
 pub mod AllMoved

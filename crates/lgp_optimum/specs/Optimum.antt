@@ -55,7 +55,8 @@ clock_with sectors s (suc count) =
     let clock = clock_with sectors s count in
     clock + cost_with sectors (after s count).core clock
 
--- how long these orders would have taken, had a word been at a sector
+-- how long these orders would have taken, had those that waited for a word found it at a sector; as
+-- an order the word is found where it is
 abbrev pub took_with : State → ℕ → ℕ → ℕ → ℕ
 took_with s count word sector = clock_with (moved word sector) s count - s.clock
 
@@ -96,10 +97,11 @@ abbrev pub is_named_by_other : State → ℕ → ℕ → Bool
 is_named_by_other s count address =
     some_order (λ now. names address now && is_other_order s count (place_of now)) s count
 
--- whether a word may be elsewhere, by whether it is named, performed as an order, and named by a
--- changed order or one in the register alone
+-- whether a word may be elsewhere, by whether an order waited for it, whether it was performed as an
+-- order itself, and whether a changed order or one in the register alone waited for it
 abbrev pub freedom : Bool → Bool → Bool → Freedom
-freedom false performed by_other = freedoms.Unnamed
+freedom false false by_other = freedoms.Unnamed
+freedom false true by_other = freedoms.Performed
 freedom true true by_other = freedoms.Performed
 freedom true false true = freedoms.NamedByChanged
 freedom true false false = freedoms.Free

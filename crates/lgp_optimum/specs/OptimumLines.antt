@@ -107,23 +107,23 @@ saved_text saved sector =
 unfoldable pub freedom_text : Freedom → Best → List ℕ
 freedom_text freedoms.Free best = saved_text best.saved best.sector
 freedom_text freedoms.Unnamed best =
-    codes "  no order named it, so its sector makes no difference\n"
+    codes "  no order waited for it or stood there, so its sector makes no difference\n"
 freedom_text freedoms.Performed best =
     codes "  it should not be moved, because it was performed as an order\n"
 freedom_text freedoms.NamedByChanged best =
     codes "  it should not be moved, because a changed order or one only in the register named it\n"
 
--- the numbers of a word along its track; nothing where no order named it
-abbrev pub drawing_of : Moves → ℕ → Freedom → List ℕ
-drawing_of moves word freedoms.Unnamed = []
-drawing_of moves word has =
+-- the numbers of a word along its track; nothing where they are all the same
+abbrev pub drawing_of : Moves → ℕ → List ℕ
+drawing_of moves word =
     let times = times_of moves word in
-    track_text (track_of times (sector_of word) (best_of moves word).sector) times
+    let track = track_of times (sector_of word) (best_of moves word).sector in
+    if track.most == track.least then [] else track_text track times
 
 -- of a given number of orders, and of one word
 unfoldable pub word_text : (ℕ → List ℕ) → ℕ → Moves → ℕ → List ℕ
 word_text label orders moves word =
     if orders == 0 then no_order_text
     else totals_line orders moves.took ++ (place_text label word ++ (codes "\n"
-    ++ (drawing_of moves word (moves.free word)
+    ++ (drawing_of moves word
     ++ freedom_text (moves.free word) (best_of moves word))))

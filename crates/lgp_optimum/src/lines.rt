@@ -241,21 +241,20 @@ fn push_track<A: Allocator>(
     Ok(())
 }
 
-/// Appends the numbers of a word along its track, if an order named it.
+/// Appends the numbers of a word along its track, if they are not all the same.
 fn push_drawing<A: Allocator, B: Allocator>(
     text: &mut Vec<u8, A>,
     optimum: &Optimum<B>,
     word: Address,
-    free: Freedom,
 ) -> Result<(), AllocError>
     ensures { OnOk result (text.new.items
-        ≡ text.old.items ++ drawing_of (moves_in optimum.now) word free) }
+        ≡ text.old.items ++ drawing_of (moves_in optimum.now) word) }
 {
-    if matches!(free, Freedom::Unnamed) {
-        return Ok(());
-    }
     let times = optimum.at(word);
     let track = track_of(&times, word.sector(), optimum.best(word).sector);
+    if track.most == track.least {
+        return Ok(());
+    }
     push_track(text, &track, &times)
 }
 
@@ -291,7 +290,8 @@ fn push_freedom<A: Allocator>(
 {
     let sentence: &[u8] = match free {
         Freedom::Free => return push_saved(text, best.saved, u64::from(best.sector)),
-        Freedom::Unnamed => b"  no order named it, so its sector makes no difference\n",
+        Freedom::Unnamed =>
+            b"  no order waited for it or stood there, so its sector makes no difference\n",
         Freedom::Performed => b"  it should not be moved, because it was performed as an order\n",
         Freedom::NamedByChanged => {
             b"  it should not be moved, because a changed order or one only in the register named it\n"
@@ -315,12 +315,11 @@ fn push_word_moves<L: Labels, A: Allocator, B: Allocator>(
     if orders == 0 {
         return push_no_order(text);
     }
-    let free = optimum.freedom(word);
     push_totals(text, orders, optimum.took())?;
     push_place(text, word, labels)?;
     text.push(b'\n')?;
-    push_drawing(text, optimum, word, free)?;
-    push_freedom(text, free, optimum.best(word))
+    push_drawing(text, optimum, word)?;
+    push_freedom(text, optimum.freedom(word), optimum.best(word))
 }
 
 /// Appends what a given number of orders would have taken with a word at each sector of its track, and whether it may be moved.

@@ -20,9 +20,9 @@ use std::marker::Model;
 pub enum Freedom {
     /// It may.
     Free,
-    /// No order waited for it: wherever it is, the orders take as long.
+    /// No order waited for it, and it was not performed: wherever it is, the orders take as long.
     Unnamed,
-    /// It was performed as an order.
+    /// It was performed as an order, whether or not another one waited for it.
     Performed,
     /// An order waited for it that another one had changed or has changed since, or that was in the instruction register alone.
     NamedByChanged,
@@ -208,8 +208,8 @@ impl<A: Allocator> Uses<A> {
     {
         let used = self.at(address);
         match (used.named, used.performed, used.by_other) {
-            (false, _, _) => Freedom::Unnamed,
-            (true, true, _) => Freedom::Performed,
+            (false, false, _) => Freedom::Unnamed,
+            (_, true, _) => Freedom::Performed,
             (true, false, true) => Freedom::NamedByChanged,
             (true, false, false) => Freedom::Free,
         }

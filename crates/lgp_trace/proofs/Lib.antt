@@ -4,6 +4,7 @@ pub mod WordLaws
 pub mod TextLemmas
 pub mod Signs
 pub mod Dearest
+pub mod DearestLaw
 pub mod DrumLemmas
 pub mod PlaceLines
 pub mod Noting

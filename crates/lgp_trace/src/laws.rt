@@ -1,11 +1,12 @@
 //! What follows from the definitions, each law as the contract of a function that does nothing.
 
-ghost use Rattle.std.specs.Prelude.{◌≡◌, ◌≢◌, ◌+◌, ℕ, Some, length};
+ghost use Rattle.std.specs.Prelude.{◌≡◌, ◌≢◌, ◌+◌, ℕ, List, Some, length};
 ghost use Rattle.lgp_table.specs.Activity.{cost, next};
 ghost use Rattle.lgp_table.specs.After.{after};
 ghost use Rattle.lgp_table.specs.State.{State, word_at};
 ghost use Rattle.lgp_trace.specs.Account.{account_of, order_of, place_of, stored_address};
 ghost use Rattle.lgp_trace.specs.Profile.{profile_of};
+ghost use Rattle.lgp_trace.specs.ProfileLines.{AreDearest, dearest};
 ghost use Rattle.lgp_trace.specs.Phases.{IsFirstRead, all_phases, phases_of};
 ghost use Rattle.lgp_trace.specs.DrumRows.{signs_of};
 ghost use Rattle.lgp_trace.specs.declared.account.Account.{Account};
@@ -53,4 +54,10 @@ pub fn profiles()
 #[tactic(auto, using(crate::proofs::DrumLemmas::as_many_signs))]
 pub fn signs_are_word_times()
     ensures { (account : Account) → length (signs_of account) ≡ all_phases account.phases }
+{}
+
+/// The places that a profile names are those with most word times, in falling order, and of two with as many the one at the lower
+/// address comes first.
+pub fn dearest_places()
+    ensures { (places : List ℕ) → (most : ℕ) → AreDearest places most (dearest places most) }
 {}

@@ -7,7 +7,7 @@ use crate::{End, end_of, expect_eq, in_turn};
 use lgp_debugger::Debugger;
 use lgp_history::History;
 use lgp_limited::Limited;
-use lgp_optimum::laws::{all_save_the_sum, own_sector, savings_add_up};
+use lgp_optimum::laws::{all_save_the_sum, freedoms, own_sector, ranked_words, savings_add_up};
 use lgp_optimum::{Freedom, Optimum, optimum_run};
 use std::alloc::{Allocator, Global};
 
@@ -48,7 +48,7 @@ fn is_told<A: Allocator>(optimum: &Optimum<A>, number: u16, wanted: Reported) ->
 /// A word of the program that sums a table: what is reported of it, and the sum of its 64 numbers.
 type Row = (u16, Reported, u128);
 
-/// The words that its orders name, and two that none does.
+/// The words that its orders wait for, an order that none of them waits for, and a word that is not used.
 static NAMED: &[Row] = &[
     (9, (Freedom::Performed, 26, 256), 182784),
     (17, (Freedom::Performed, 15, 64), 185856),
@@ -62,7 +62,7 @@ static NAMED: &[Row] = &[
     (65, (Freedom::NamedByChanged, 24, 64), 185856),
     (66, (Freedom::NamedByChanged, 24, 64), 185856),
     (67, (Freedom::NamedByChanged, 24, 64), 185856),
-    (8, (Freedom::Unnamed, 8, 0), 186240),
+    (8, (Freedom::Performed, 8, 0), 186240),
     (4095, (Freedom::Unnamed, 63, 0), 186240),
 ];
 
@@ -150,5 +150,7 @@ fn each_growth_refused(rt: HostRuntime) {
 fn the_laws_do_nothing(_rt: HostRuntime) {
     own_sector();
     savings_add_up();
+    ranked_words();
+    freedoms();
     all_save_the_sum();
 }
