@@ -6,3 +6,5 @@ pub mod LoadLaws
 pub mod AskingLaws
 pub mod CommandLaws
 pub mod OpenedLaws
+pub mod RunAgain
+pub mod RunParts

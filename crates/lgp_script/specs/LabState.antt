@@ -1,6 +1,6 @@
 -- Part of the public promise: the script language, the state of a laboratory between two lines of a
 -- script, and what an answer is.
-use Rattle.std.specs.Prelude.{ℕ, Option, None, List, [], ◌++◌, unwrap_or}
+use Rattle.std.specs.Prelude.{ℕ, Option, None, List, [], unwrap_or}
 use Rattle.std.specs.Option.{option_map_or, option_or}
 use Rattle.lgp_word.specs.Drum.{blank_words}
 use Rattle.lgp_assembler.specs.Image.{image_of}

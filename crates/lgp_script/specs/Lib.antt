@@ -9,6 +9,8 @@ pub mod DrumCommands
 pub mod SourceCommands
 pub mod LoadCommand
 pub mod HistoryCommands
+pub mod UntilReply
+pub mod RunPart
 pub mod ReplyText
 pub mod Script
 pub mod CommandLaws

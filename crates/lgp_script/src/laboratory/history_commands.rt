@@ -1,17 +1,25 @@
 //! Rules and the way back.
 
-ghost use Rattle.std.specs.Prelude.{◌≡◌, ◌++◌, IfOk, OnOk};
+ghost use Rattle.std.specs.Prelude.{◌≡◌, ◌++◌, IfOk, OnOk, not};
+ghost use Rattle.lgp_machine.specs.Answers.{passes_clock_end};
 ghost use Rattle.lgp_debugger.specs.Debugging.{order_origins};
+ghost use Rattle.lgp_debugger.specs.Run.{IsRun};
 ghost use Rattle.lgp_script.specs.HistoryCommands.{orders_run, replied_to_back, replied_to_drop, replied_to_last, replied_to_rule, replied_to_run};
 ghost use Rattle.lgp_script.specs.LabState.{labels_of};
+ghost use Rattle.lgp_script.specs.LaboratoryInside.{goes_past};
 ghost use Rattle.lgp_script.specs.Reply.{IsReplied};
+ghost use Rattle.lgp_script.specs.RunPart.{IsRunPart, rules_if};
+ghost use Rattle.lgp_script.specs.UntilReply.{IsRepliedUntil};
 
 use super::{Laboratory, labels_in};
 use crate::refusal::Refusal;
 use crate::reply::Reply;
+use crate::run_part::RunPart;
 use crate::teller::Teller;
-use lgp_debugger::{HitFault, RuleFault, RunFault, RunRefusal};
+use crate::until_reply::UntilReply;
+use lgp_debugger::{HitFault, Ran, Reason, RuleFault, RunFault, RunRefusal, passes_end};
 use lgp_history::{BackFault, Rule};
+use lgp_when::{RanUntil, Until, run_until};
 use std::alloc::{AllocError, Allocator};
 
 /// How many rules there may be.
@@ -73,6 +81,75 @@ impl<A: Allocator + Copy> Laboratory<A> {
         match teller.run(self.alloc, &mut self.debugger, limit, names, text) {
             Ok(ran) => Ok(Reply::Ran(ran)),
             Err(broken) => broken_off(&broken),
+        }
+    }
+
+    /// Does what the command `run` does, at most until its orders have met a condition.
+    #[tactic(auto, unfolding(crate::specs::HistoryCommands::replied_to_run, crate::specs::HistoryCommands::orders_run), using(crate::proofs::RunAgain::leaves_same))]
+    pub fn run_until(&mut self, until: &Until, limit: u64) -> Result<UntilReply, AllocError>
+        ensures { IfOk result (λ answer. IsRepliedUntil until.now limit self.old self.new answer) }
+    {
+        match run_until(&mut self.debugger, until, limit) {
+            Ok(RanUntil { ran, is_met }) => Ok(UntilReply {
+                reply: Reply::Ran(ran),
+                orders: ran.orders,
+                is_met,
+            }),
+            Err(broken) => Ok(UntilReply {
+                reply: broken_off(&broken)?,
+                orders: broken.orders,
+                is_met: false,
+            }),
+        }
+    }
+
+    /// Performs the orders of a run, which the rules stop or nothing does.
+    fn run_by(&mut self, by_rules: bool, limit: u64) -> Result<Ran, RunFault>
+        ensures run { IsRun (rules_if by_rules self.old) limit self.old.debugger
+            self.new.debugger result }
+        ensures same { self.new ≡ record self.old { debugger = self.new.debugger } }
+    {
+        if by_rules {
+            self.debugger.run(limit)
+        } else {
+            self.debugger.run_freely(limit)
+        }
+    }
+
+    /// Whether the clock's end is not before the end of the next order.
+    fn has_time(&self) -> bool
+        ensures { result ≡ not (passes_clock_end self.now.debugger.state) }
+    {
+        let Some(ahead) = self.debugger.machine().ahead() else {
+            unreachable!()
+        };
+        !passes_end(self.debugger.look().clock, ahead.cost)
+    }
+
+    /// Whether a run of `limit` orders goes on after one of `most` orders that came to this.
+    fn goes_past(&self, ran: &Ran, limit: u64, most: u64) -> bool
+        ensures { result ≡ goes_past limit most ran.now.reason self.now.debugger.state }
+    {
+        most < limit && matches!(ran.reason, Reason::Limit) && self.has_time()
+    }
+
+    /// Performs the first orders of a run, at most `most` of them. The run is one of at most `limit` orders, which the rules stop or
+    /// nothing does. A refused growth leaves open how many were performed.
+    pub fn run_part(&mut self, by_rules: bool, limit: u64, most: u64) -> Result<RunPart, AllocError>
+        ensures { IfOk result (λ part. IsRunPart by_rules limit most self.old self.new part) }
+    {
+        match self.run_by(by_rules, limit.min(most)) {
+            Ok(ran) => Ok(RunPart {
+                orders: ran.orders,
+                goes_on: self.goes_past(&ran, limit, most),
+            }),
+            Err(broken) => {
+                broken_off(&broken)?;
+                Ok(RunPart {
+                    orders: broken.orders,
+                    goes_on: false,
+                })
+            }
         }
     }
 
