@@ -5,15 +5,15 @@ pub const COMMAND_KEYS: [u8; 48] = *b"\
 command|group|operands|asks|does|refused|example";
 
 /// The commands, a row each: what it is called, its group, its operands, whether it only asks, what it does, when it is refused, and an example.
-pub const COMMANDS: [u8; 8114] = *b"\
+pub const COMMANDS: [u8; 8423] = *b"\
 put|machine|ttss WORD, or ttss FRACTION, ttss = NUMBER, ttss = NUMBER POINT, ttss OPERATION|no|puts a word at an address|while the machine is going: press manual first|put 0050 = 385\n\
 go|machine|ttss|no|starts the machine at an address, as an operator does|if there is no such address, or the clock would pass its limit|go 0000\n\
-mount|machine|TEXT|no|puts a tape in the reader|while the machine is going, or if a byte does not begin a tape sign|mount 12a'\n\
-press|machine|BUTTON, or SWITCH up, SWITCH down|no|presses a button, or sets a switch|never; a button that does nothing now is dead: live lists the others|press start\n\
-type|machine|TEXT|no|strikes the keys of the typewriter|if a byte does not begin a tape sign|type 000f0100\n\
+mount|machine|TEXT|no|puts a tape in the reader|while the machine is going, or if the text contains a character that does not exist on tape|mount 12a'\n\
+press|machine|BUTTON, or SWITCH up, SWITCH down|no|presses a button, or sets a switch|never; a button that has no effect now is dead: live lists the ones that work|press start\n\
+type|machine|TEXT|no|strikes the keys of the typewriter|if the text contains a character that does not exist on tape|type 000f0100\n\
 turn|machine|NUMBER|no|lets word times pass while the machine is at rest|while the machine is going: press manual first|turn 64\n\
-orders|machine|NUMBER|no|performs at most NUMBER orders, whatever the rules say|if the clock would pass its limit|orders 2\n\
-run|machine|NUMBER|no|performs at most NUMBER orders, until the machine rests or a rule stops it|if the clock would pass its limit|run 100\n\
+orders|machine|NUMBER|no|executes up to NUMBER orders, ignoring breakpoints and watchpoints|if the clock would pass its limit|orders 2\n\
+run|machine|NUMBER, or NUMBER until CONDITION|no|executes up to NUMBER orders, until the machine rests, a rule stops it or an order meets the condition|if the clock would pass its limit|run 100\n\
 operate|machine|NUMBER|no|runs, and presses Start after each print, at most NUMBER times|if the clock would pass its limit|operate 100\n\
 trace|accounts|NUMBER|no|runs, and describes each order: its waits, what it changed, and what put it there|if the clock would pass its limit|trace 2\n\
 profile|accounts|NUMBER|no|runs, and shows where the word times went|if the clock would pass its limit|profile 100\n\
@@ -22,6 +22,7 @@ optimum|accounts|NUMBER, or NUMBER ttss|no|runs, and shows which words would hav
 why|accounts|ttss|yes|says which step put a word where it is, and what was there before|if there is no such address|why 0002\n\
 back|accounts|NUMBER|no|goes NUMBER orders back|if fewer orders are kept|back 1\n\
 last|accounts||no|goes back to the latest order that a rule hits|if no rule hits any of the kept orders|last\n\
+at|accounts|NUMBER LINE|yes|answers LINE as at the beginning of the order of that number, counted from 0; nothing is changed|if fewer orders were performed, or where LINE is|at 0 panel\n\
 panel|look||yes|shows the registers, switches, reader and clock in one line|never|panel\n\
 words|look|ttss NUMBER|yes|shows words as digits, at most 64|if the words would go past the end of the drum|words 0000 4\n\
 show|look|ttss NUMBER|yes|shows words as orders, at most 64|if the words would go past the end of the drum|show 0000 4\n\
@@ -82,16 +83,16 @@ operation|operands|words|waits|stores|does|example";
 
 /// The operations of the source language, a row each: what it is called, its operands, how many words it makes, whether it waits for its word and stores there,
 /// what it does, and an example.
-pub const OPERATIONS: [u8; 1882] = *b"\
+pub const OPERATIONS: [u8; 1906] = *b"\
 z|nothing, or ttss, LABEL or *|1|no|no|stops the machine, unless a break point switch lets it go on|z\n\
 b|ttss, LABEL or *|1|yes|no|brings the word into the accumulator|b 0300\n\
 y|ttss, LABEL or *|1|yes|yes|stores the accumulator's address part in the word's address part|y 0300\n\
 r|ttss, LABEL or *|1|yes|yes|stores the return address in the word's address part|r 0300\n\
-i|ttss, LABEL or *|1|no|no|reads codes from tape or keys into the accumulator|i 0000\n\
+i|nothing, or ttss, LABEL or *|1|no|no|reads codes from tape or keys into the accumulator|i 0000\n\
 d|ttss, LABEL or *|1|yes|no|divides the accumulator by the word|d 0300\n\
 n|ttss, LABEL or *|1|yes|no|multiplies by the word and keeps the lower half|n 0300\n\
 m|ttss, LABEL or *|1|yes|no|multiplies by the word and keeps the upper half|m 0300\n\
-p|ttss, LABEL, *, or = and a sign|1|no|no|prints the code that its track names; p 0000 starts the reader|p =a\n\
+p|nothing, or ttss, LABEL, *, or = and a sign|1|no|no|prints the code that its track names; p 0000 starts the reader|p =a\n\
 e|ttss, LABEL or *|1|yes|no|keeps the bits of the accumulator where the word has a 1|e 0300\n\
 u|ttss, LABEL or *|1|no|no|continues at the address|u 0300\n\
 t|ttss, LABEL or *|1|no|no|continues at the address if the accumulator is negative|t 0300\n\

@@ -20,6 +20,7 @@ same_meaning recorded Objects (entry.Misformed part wrong) kept = refl
 same_meaning recorded Objects (entry.Script command) kept = refl
 same_meaning recorded Objects (entry.Go address) kept = refl
 same_meaning recorded Objects (entry.Operate limit) kept = refl
+same_meaning recorded Objects (entry.Until condition limit) kept = refl
 same_meaning recorded Objects entry.Transcript kept = refl
 same_meaning recorded Objects entry.New kept = refl
 same_meaning recorded Objects entry.Help kept = refl

@@ -1,5 +1,6 @@
 pub mod GoLemmas
 pub mod LineLemmas
+pub mod MomentLines
 pub mod PerformingLemmas
 pub mod Pictures
 pub mod RestoreLemmas

@@ -19,7 +19,8 @@ use Rattle.lgp_script.specs.Reply.{Replied}
 use Rattle.lgp_table.specs.declared.action.Action.TheVariants as actions
 use Rattle.lgp_word.specs.Order.{plain_order}
 use Rattle.lgp_word.specs.declared.order.Op.TheVariants.{U}
-use Rattle.lgp_monitor.specs.Monitor.{entry_at, go_lines, meaning_at, meaning_of, monitor_language}
+use Rattle.lgp_monitor.specs.Monitor.{entry_at, go_lines, meaning_at, meaning_now, meaning_of, monitor_language, order_asked}
+use Rattle.lgp_monitor.specs.Untils.{orders_done}
 use Rattle.lgp_monitor.specs.Operating.{Operated, ended_with, once_more, operated, operated_on, run_again, run_line, waits_for_typewriter}
 use Rattle.lgp_monitor.specs.declared.entry.Entry.{Entry}
 use Rattle.lgp_monitor.specs.declared.entry.Entry.TheVariants as entry
@@ -126,18 +127,27 @@ free-meaning recorded (entry.Script command) line free = (one_line command _ (fr
 free-meaning recorded (entry.Go address) line free = free-go _
 free-meaning recorded (entry.Reported telling limit) line free = (free-run limit, tt)
 free-meaning recorded (entry.Operate limit) line free = free-operated limit recorded.state
+free-meaning recorded (entry.Until condition limit) line free = (free-run (orders_done condition limit recorded.state), tt)
 free-meaning recorded (entry.Asked question) line free = tt
 free-meaning recorded entry.Transcript line free = tt
 free-meaning recorded entry.New line free = tt
 free-meaning recorded entry.Help line free = tt
 free-meaning recorded (entry.HelpOf verb) line free = tt
 
-pub free-at : (recorded : Recorded LabState) (line : List ℕ) → IsLine line → AreLines (meaning_at recorded line)
-unfolding meaning_at
-free-at recorded line free = by_source (is_some recorded.state.opened) where
+free-now : (recorded : Recorded LabState) (line : List ℕ) → IsLine line → AreLines (meaning_now recorded line)
+unfolding meaning_now
+free-now recorded line free = by_source (is_some recorded.state.opened) where
   by_source : (opened : Bool) → AreLines (cond opened (Lines (stand_in (kept_of line) ∷ [])) (meaning_of recorded (entry_at recorded line) (kept_of line)))
   by_source true = (free-stand_in _ free, tt)
   by_source false = free-meaning recorded (entry_at recorded line) line free
+
+-- a line about a moment stands for no line
+pub free-at : (recorded : Recorded LabState) (line : List ℕ) → IsLine line → AreLines (meaning_at recorded line)
+unfolding meaning_at
+free-at recorded line free = by_moment (is_some (order_asked recorded (kept_of line))) where
+  by_moment : (there : Bool) → AreLines (cond there (Lines []) (meaning_now recorded line))
+  by_moment true = tt
+  by_moment false = free-now recorded line free
 
 pub reported_by_script : (text : List ℕ) → IsReportedByTranscript script_language opening_state (state_after monitor_language (untouched opening_state) (lines text))
 reported_by_script text = reported_by_transcript script_language opening_state meaning_at monitor_language (λ recorded line. refl) (λ recorded line free. free-at recorded _ free) text

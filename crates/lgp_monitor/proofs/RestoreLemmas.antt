@@ -1,5 +1,5 @@
 -- Dumps that are restored.
-use Rattle.std.proofs.Common.{◌≡◌, ◌<◌, ◌+◌, ◌++◌, ◌==◌, ℕ, Bool, true, false, cond, ◌&&◌, is_none, List, [], ◌∷◌, ◌≤◌, codes, decimal, length, drop, get_or, set, fold, map, Option, Some, None, Result, Err, refl, sym, ap, subst, ◌∙◌}
+use Rattle.std.proofs.Common.{◌≡◌, ◌<◌, ◌+◌, ◌++◌, ◌==◌, ℕ, Bool, true, false, cond, ◌&&◌, ◌||◌, not, is_none, is_some, List, [], ◌∷◌, ◌≤◌, codes, decimal, length, drop, get_or, set, fold, map, Option, Some, None, Result, Err, refl, sym, ap, subst, ◌∙◌}
 use Rattle.std.specs.List.{AllByRecursion}
 use Rattle.std.specs.Option.{IfNone, IfSome, option_map_or}
 use Rattle.std.specs.Result.{IfErr, IsErrOf}
@@ -15,7 +15,7 @@ use Rattle.lgp_listing.proofs.ReadingSteps.{IsReadSo, in_form, read_all, read_mo
 use Rattle.lgp_listing.proofs.DumpsReadBack.{dump_faultless, one_drum}
 use Rattle.lgp_script.specs.Script.{script_language}
 use Rattle.lgp_script.specs.LabState.{LabState}
-use Rattle.lgp_monitor.specs.FileTexts.{cells_changed, changed_cells, dump_fault_text, dumped_words, put_cell, restore_lines, restore_reply, rests_at}
+use Rattle.lgp_monitor.specs.FileTexts.{cells_changed, changed_cells, dump_fault_text, dumped_words, put_cell, refuses_dump, restore_lines, restore_reply, rests_at}
 use Rattle.lgp_script.specs.declared.refusal.Refusal.TheVariants.{Moving}
 use Rattle.lgp_monitor.specs.Reasons.{refused_text}
 use Rattle.lgp_monitor.proofs.LineLemmas.{free-put}
@@ -137,6 +137,16 @@ pub faulty_reply : (recorded : Recorded LabState) (dump : List ℕ) (fault : Dum
 unfolding restore_reply
 faulty_reply recorded dump fault is =
     sym (ap (λ (found : Option DumpFault). option_map_or dump_fault_text found (restored_text (rests_at recorded) (length (cells_changed recorded dump)))) is)
+
+-- whether it is refused
+pub restored_refused : (recorded : Recorded LabState) (drum dump : List ℕ) → IsDrum drum → dump_of drum ≡ dump → not (rests_at recorded) ≡ refuses_dump recorded dump
+unfolding refuses_dump
+restored_refused recorded drum dump is_drum is =
+    ap (λ (fault : Option DumpFault). is_some fault || not (rests_at recorded)) (sym (dump_faultless drum dump is_drum (sym is)))
+
+pub faulty_refused : (recorded : Recorded LabState) (dump : List ℕ) (fault : DumpFault) → first_fault dump ≡ Some fault → true ≡ refuses_dump recorded dump
+unfolding refuses_dump
+faulty_refused recorded dump fault is = sym (ap (λ (found : Option DumpFault). is_some found || not (rests_at recorded)) is)
 
 pub faulty_after : (recorded : Recorded LabState) (dump : List ℕ) (fault : DumpFault) → first_fault dump ≡ Some fault
     → recorded ≡ after_lines script_language recorded (restore_lines recorded dump)

@@ -35,6 +35,15 @@ shown_faults source =
 abbrev pub is_source_end : Kept → Bool
 is_source_end kept = not kept.longer && bytes_eq kept.front (codes ".")
 
+-- whether an open source is too long or has faults, and whether a line closes such a source
+unfoldable pub is_faulty : Option SourceText → Bool
+is_faulty opened =
+    option_map_or (λ source. source.too_long || not (length (faults_of source.text) == 0))
+    opened false
+
+abbrev pub closes_faulty : Option SourceText → Kept → Bool
+closes_faulty opened kept = is_source_end kept && is_faulty opened
+
 -- the reply to a line that closes a source with faults, or one that is too long; None to any other
 unfoldable pub closing_reply : Option SourceText → Kept → Option (List ℕ)
 closing_reply opened kept =

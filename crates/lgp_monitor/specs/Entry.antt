@@ -18,6 +18,8 @@ use Rattle.lgp_command.specs.Span.{WordRange, range_of}
 use Rattle.lgp_command.specs.declared.command.Command.TheVariants as commands
 use Rattle.lgp_fields.specs.declared.records.RecordForm.{RecordForm}
 use Rattle.lgp_fields.specs.declared.records.RecordForm.TheVariants.{Lines, Objects}
+use Rattle.lgp_when.specs.declared.condition.Condition.{Condition}
+use Rattle.lgp_when.specs.declared.condition.Condition.TheVariants as conditions
 use Rattle.lgp_monitor.specs.Scaled.{point_of}
 use Rattle.lgp_monitor.specs.Mistakes.{address_mistake, takes_numbers, takes_place, value_mistake}
 use Rattle.lgp_monitor.specs.Verbs.{verb_names}
@@ -75,6 +77,11 @@ lone_word operands = if has_no_word (after_word operands) then Some (first_word 
 -- the place after which a number's point is, 30 where none is given
 abbrev pub point_at : List ℕ → List ℕ
 point_at operands = unwrap_or (operand_at operands) (codes "30")
+
+-- whether operands are a name and a number, or what is written in its place
+abbrev pub is_counted : List ℕ → List ℕ → Bool
+is_counted name operands =
+    bytes_eq (first_word operands) name && not (has_no_word (after_word operands))
 
 -- eight digits or a fraction
 unfoldable pub digits_or_fraction : List ℕ → Option ℕ
@@ -134,6 +141,19 @@ module _ (names : List (List ℕ × ℕ)) (place : ℕ) where
       if bytes_eq (first_word operands) (codes "=") then whole_at (after_word operands)
       else option_or (option_and_then digits_or_fraction (lone_word operands))
       (operation_at operands)
+
+  -- the value after `<`: a whole number and the place after which its point is, or as after `put ttss`
+  abbrev pub bound_at : List ℕ → Option ℕ
+  bound_at operands = option_or (whole_at operands) (value_at operands)
+
+  -- the condition on the machine at an address, by what comes after that: nothing, where the machine
+  -- is to come there; `<` and a value, than which the word there is to be less; or its value
+  abbrev pub condition_of : List ℕ → Option Condition
+  condition_of value =
+      if has_no_word value then Some (conditions.At place)
+      else (if bytes_eq (first_word value) (codes "<")
+      then option_map (conditions.Below place) (bound_at (after_word value))
+      else option_map (conditions.Equal place) (value_at value))
 
   -- why a value is no word
   abbrev pub value_wrong : List ℕ → Wrong
@@ -217,6 +237,16 @@ abbrev pub is_for_programs : Entry → Bool
 is_for_programs (entry.Asked question) = is_data question
 is_for_programs (entry.Reported telling limit) = is_records (form_of telling)
 is_for_programs asked = false
+
+-- whether it has objects of JSON
+abbrev pub is_objects : Report → Bool
+is_objects (reports.Records Objects) = true
+is_objects report = false
+
+abbrev pub has_objects : Entry → Bool
+has_objects (entry.Asked (questions.Data question Objects)) = true
+has_objects (entry.Reported telling limit) = is_objects (form_of telling)
+has_objects asked = false
 
 -- what is asked for, with a reply for programs as objects of JSON
 abbrev pub report_as_objects : Report → Report
@@ -311,6 +341,28 @@ module _ (names : List (List ℕ × ℕ)) (counter : ℕ) where
       else optimum_of form place limit)
       (read_of (verbs.NumberAddress form) (lone_number (first_word operands)))
 
+  -- the condition that comes after `until`: so many codes or rows printed, or one on the machine at
+  -- an address
+  unfoldable pub condition_at : List ℕ → Result Condition Wrong
+  condition_at operands =
+      if is_counted (codes "printed") operands
+      then read_of verbs.Run (option_map conditions.Printed (lone_number (after_word operands)))
+      else (if is_counted (codes "rows") operands
+      then read_of verbs.Run (option_map conditions.Rows (lone_number (after_word operands)))
+      else and_then
+      (λ place. read_of verbs.Run (condition_of names place (after_word operands)))
+      (first_address names counter verbs.Run Third operands))
+
+  -- a run that ends with the order that meets a condition
+  unfoldable pub run_entry : List ℕ → Result Entry Wrong
+  run_entry operands =
+      let until = after_word operands in
+      and_then (λ limit. if bytes_eq (first_word until) (codes "until")
+      then and_then (λ condition. Ok (entry.Until condition limit))
+      (condition_at (after_word until))
+      else Err (Operands verbs.Run))
+      (read_of verbs.Run (lone_number (first_word operands)))
+
   -- a word for an address
   unfoldable pub put_entry : List ℕ → Result Entry Wrong
   put_entry operands =
@@ -331,6 +383,7 @@ module _ (names : List (List ℕ × ℕ)) (counter : ℕ) where
       read_of (verbs.Number command)
       (option_and_then (asked_with command) (lone_number operands))
   entry_by operands (verbs.NumberAddress form) = optimum_entry form operands
+  entry_by operands verbs.Run = run_entry operands
   entry_by operands (verbs.Range command) =
       and_then (λ range. Ok (asked_of command range))
       (range_at (verbs.Range command) operands (after_word operands))

@@ -1,7 +1,7 @@
 -- Part of the public promise: how the monitor answers a text that no line has room for, and where
 -- that leaves it. A dump is restored, by lines of a script that put its words on the drum; a tape is
 -- mounted.
-use Rattle.std.specs.Prelude.{ℕ, ◌+◌, ◌==◌, ◌&&◌, Bool, if◌then◌else◌, is_none, List, [], ◌∷◌}
+use Rattle.std.specs.Prelude.{ℕ, ◌+◌, ◌==◌, ◌&&◌, ◌||◌, Bool, if◌then◌else◌, is_none, is_some, not, List, [], ◌∷◌}
 use Rattle.std.specs.Prelude.{◌++◌, codes, decimal, fold, length, map, slice_set}
 use Rattle.std.specs.Option.{option_map_or}
 use Rattle.bstr.specs.Text.{lines_of}
@@ -18,7 +18,7 @@ use Rattle.lgp_script.specs.LabState.{LabState}
 use Rattle.lgp_script.specs.TapeCommands.{replied_to_tape_text}
 use Rattle.lgp_script.specs.declared.refusal.Refusal.TheVariants.{Moving}
 use Rattle.lgp_monitor.specs.Monitor.{answered_with, panel_at}
-use Rattle.lgp_monitor.specs.Reasons.{explained_text, refused_text}
+use Rattle.lgp_monitor.specs.Reasons.{explained_text, is_refusal, refused_text}
 
 -- ---- restore
 
@@ -67,6 +67,10 @@ module _ (recorded : Recorded LabState) where
   restore_lines dump =
       if is_none (first_fault dump) && rests_at then map put_cell (cells_changed dump) else []
 
+  -- whether it is refused
+  unfoldable pub refuses_dump : List ℕ → Bool
+  refuses_dump dump = is_some (first_fault dump) || not rests_at
+
   abbrev pub answer_to_dump : List ℕ → Answer (Recorded LabState)
   answer_to_dump dump = answered_with recorded (restore_reply dump) (restore_lines dump)
 
@@ -77,6 +81,9 @@ module _ (recorded : Recorded LabState) where
   tape_reply text =
       let replied = replied_to_tape_text recorded.state text in
       explained_text replied.after replied.reply
+
+  unfoldable pub refuses_tape : List ℕ → Bool
+  refuses_tape text = is_refusal (replied_to_tape_text recorded.state text).reply
 
   unfoldable pub after_tape : List ℕ → List ℕ → Recorded LabState
   after_tape name text =

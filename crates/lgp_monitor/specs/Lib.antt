@@ -14,6 +14,8 @@ pub mod Closing
 pub mod ClosingInside
 pub mod Operating
 pub mod OperatingInside
+pub mod Untils
+pub mod Moments
 pub mod Monitor
 pub mod GoInside
 pub mod PerformingInside

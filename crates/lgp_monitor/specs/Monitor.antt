@@ -1,7 +1,9 @@
 -- Part of the public promise: the monitor, a language in which a typed line stands for lines of a
 -- script.
-use Rattle.std.specs.Prelude.{ℕ, ◌||◌, if◌then◌else◌, is_some, unwrap_or}
-use Rattle.std.specs.Prelude.{List, [], ◌∷◌, ◌++◌, codes}
+use Rattle.std.specs.Prelude.{ℕ, ◌||◌, ◌&&◌, Bool, true, false, not, if◌then◌else◌, is_some, nat_lt}
+use Rattle.std.specs.Prelude.{Option, None, unwrap_or, List, [], ◌∷◌, ◌++◌, codes}
+use Rattle.std.specs.Option.{option_map_or}
+use Rattle.std.specs.Str.Lines.{lines}
 use Rattle.lgp_word.specs.Digits.{digits_of}
 use Rattle.lgp_word.specs.Order.{plain_order}
 use Rattle.lgp_word.specs.declared.order.Op.TheVariants.{U}
@@ -21,14 +23,19 @@ use Rattle.lgp_script.specs.Script.{replied_to, script_language}
 use Rattle.lgp_script.specs.HistoryCommands.{orders_run, replied_to_run}
 use Rattle.lgp_script.specs.LabState.{LabState, labels_of, opening_state}
 use Rattle.lgp_script.specs.declared.refusal.Refusal.TheVariants.{TooLong}
-use Rattle.lgp_monitor.specs.Closing.{closing_reply}
+use Rattle.lgp_moment.specs.Moment.{all_orders, moment_of}
+use Rattle.lgp_monitor.specs.Moments.{line_there, moment_asked, not_yet_text}
+use Rattle.lgp_monitor.specs.Closing.{closes_faulty, closing_reply}
 use Rattle.lgp_monitor.specs.Questions.{answer_to}
 use Rattle.lgp_monitor.specs.Forms.{form_line, help_text}
-use Rattle.lgp_monitor.specs.Reasons.{explained_text, refused_text, run_end_text}
+use Rattle.lgp_monitor.specs.Reasons.{explained_text, is_refusal, refused_text, run_end_text}
 use Rattle.lgp_monitor.specs.Telling.{form_of, reported_text}
-use Rattle.lgp_monitor.specs.Entry.{entry_of, in_form}
+use Rattle.lgp_monitor.specs.Entry.{entry_of, has_objects, in_form}
 use Rattle.lgp_monitor.specs.Wrongs.{misformed_text}
 use Rattle.lgp_monitor.specs.Operating.{operated, run_line, starts_text}
+use Rattle.lgp_monitor.specs.Untils.{is_met, met_text, orders_done, replied_until}
+use Rattle.lgp_when.specs.declared.condition.Condition.{Condition}
+use Rattle.lgp_monitor.specs.declared.answered.Answered.{Answered}
 use Rattle.lgp_monitor.specs.declared.telling.Telling.{Telling}
 use Rattle.lgp_monitor.specs.declared.entry.Entry.{Entry}
 use Rattle.lgp_monitor.specs.declared.entry.Entry.TheVariants as entry
@@ -82,6 +89,14 @@ module _ (recorded : Recorded LabState) where
       answered_with (explained_text done.last.after done.last.reply ++ starts_text done.starts)
       done.lines
 
+  -- a run until a condition is met: its reply, and whether it was met
+  abbrev pub answer_to_until : Condition → ℕ → Answer (Recorded LabState)
+  answer_to_until condition limit =
+      let replied = replied_until condition limit recorded.state in
+      answered_with (explained_text replied.after replied.reply
+      ++ met_text (is_met condition limit recorded.state))
+      (run_line (orders_done condition limit recorded.state) ∷ [])
+
   -- what a line of which this is kept stands for; what is shown stands for no line
   abbrev pub meaning_of : Entry → Kept → Meaning
   meaning_of entry.Itself kept = Lines (stand_in kept ∷ [])
@@ -91,6 +106,8 @@ module _ (recorded : Recorded LabState) where
   meaning_of (entry.Go address) kept = Lines (go_lines address)
   meaning_of (entry.Reported telling limit) kept = Lines (run_line limit ∷ [])
   meaning_of (entry.Operate limit) kept = Lines (operated limit recorded.state).lines
+  meaning_of (entry.Until condition limit) kept =
+      Lines (run_line (orders_done condition limit recorded.state) ∷ [])
   meaning_of entry.New kept = Anew
   meaning_of asked kept = Lines []
 
@@ -108,6 +125,7 @@ module _ (recorded : Recorded LabState) where
   reply_of (entry.Go address) kept = replies_text script_language recorded (go_lines address)
   reply_of (entry.Reported telling limit) kept = (told_run telling limit).reply
   reply_of (entry.Operate limit) kept = (answer_to_operating limit).reply
+  reply_of (entry.Until condition limit) kept = (answer_to_until condition limit).reply
   reply_of (entry.Asked question) kept = answer_to question recorded.state
   reply_of entry.Transcript kept = recorded.transcript
   reply_of entry.New kept = codes "new\n"
@@ -121,12 +139,36 @@ module _ (recorded : Recorded LabState) where
     after = after_meaning script_language opening_state recorded (meaning_of asked kept);
   }
 
+  -- whether a line of which this is kept is refused
+  abbrev pub refused_of : Entry → Kept → Bool
+  refused_of entry.Itself kept = not (kept.blank || is_comment kept.front)
+  refused_of (entry.Misformed part wrong) kept = true
+  refused_of (entry.Script command) kept =
+      is_refusal (replied_to recorded.state command (text_after_word kept.front)).reply
+  refused_of (entry.Reported telling limit) kept =
+      is_refusal (replied_to_run recorded.state limit).reply
+  refused_of (entry.Operate limit) kept = is_refusal (operated limit recorded.state).last.reply
+  refused_of (entry.Until condition limit) kept =
+      is_refusal (replied_until condition limit recorded.state).reply
+  refused_of asked kept = false
+
+  -- what its answer is beside its text
+  abbrev pub answered_of : Entry → Kept → Answered
+  answered_of asked kept = record {
+    is_refused = refused_of asked kept;
+    has_objects = not (refused_of asked kept) && has_objects asked;
+  }
+
   -- a line of an open source, which is the source's, answered; where it closes a source with faults,
   -- their marks are shown
   abbrev pub answer_in_source : Kept → Answer (Recorded LabState)
   answer_in_source kept =
       answered_with (unwrap_or (closing_reply recorded.state.opened kept)
       (replies_text script_language recorded (stand_in kept ∷ []))) (stand_in kept ∷ [])
+
+  abbrev pub answered_in_source : Kept → Answered
+  answered_in_source kept =
+      record { is_refused = closes_faulty recorded.state.opened kept; has_objects = false }
 
   -- what a line asks for where no source is open
   unfoldable pub entry_at : List ℕ → Entry
@@ -136,16 +178,71 @@ module _ (recorded : Recorded LabState) where
   abbrev pub entry_in : RecordForm → List ℕ → Entry
   entry_in form line = in_form form (entry_at line)
 
-  unfoldable pub meaning_at : List ℕ → Meaning
-  meaning_at line =
+  unfoldable pub meaning_now : List ℕ → Meaning
+  meaning_now line =
       if is_some recorded.state.opened then Lines (stand_in (kept_of line) ∷ [])
       else meaning_of (entry_at line) (kept_of line)
 
   -- the reply to a line, to a program in a form
-  unfoldable pub reply_in : RecordForm → List ℕ → List ℕ
-  reply_in form line =
+  unfoldable pub reply_now : RecordForm → List ℕ → List ℕ
+  reply_now form line =
       if is_some recorded.state.opened then (answer_in_source (kept_of line)).reply
       else reply_of (entry_in form line) (kept_of line)
+
+  -- a line answered now
+  abbrev pub answer_now : RecordForm → List ℕ → Answer (Recorded LabState)
+  answer_now form line = record {
+    reply = reply_now form line;
+    after = after_meaning script_language opening_state recorded (meaning_now line);
+  }
+
+  -- what its answer is beside its text
+  unfoldable pub answered_now : RecordForm → List ℕ → Answered
+  answered_now form line =
+      if is_some recorded.state.opened then answered_in_source (kept_of line)
+      else answered_of (entry_in form line) (kept_of line)
+
+-- ---- moments: a line answered as at the beginning of an order, where it leaves no trace
+
+module _ (recorded : Recorded LabState) where
+  -- the order of which a line asks
+  abbrev pub order_asked : Kept → Option ℕ
+  order_asked kept = if is_some recorded.state.opened then None else moment_asked kept
+
+  -- how many orders there were, and the session as it was when one of them began
+  abbrev pub orders_there : ℕ
+  orders_there = all_orders opening_state (lines recorded.transcript)
+
+  abbrev pub session_at : ℕ → Recorded LabState
+  session_at order = moment_of recorded.transcript order
+
+  -- a line answered there
+  abbrev pub reply_there : RecordForm → Kept → ℕ → List ℕ
+  reply_there form kept order =
+      if nat_lt orders_there order then not_yet_text orders_there
+      else reply_now (session_at order) form (line_there kept.front)
+
+  abbrev pub answered_there : RecordForm → Kept → ℕ → Answered
+  answered_there form kept order =
+      if nat_lt orders_there order then record { is_refused = true; has_objects = false }
+      else answered_now (session_at order) form (line_there kept.front)
+
+  -- ---- a line
+
+  -- what it stands for, what is replied to it, and what that is beside its text
+  unfoldable pub meaning_at : List ℕ → Meaning
+  meaning_at line =
+      if is_some (order_asked (kept_of line)) then Lines [] else meaning_now recorded line
+
+  unfoldable pub reply_in : RecordForm → List ℕ → List ℕ
+  reply_in form line =
+      option_map_or (reply_there form (kept_of line)) (order_asked (kept_of line))
+      (reply_now recorded form line)
+
+  unfoldable pub answered_in : RecordForm → List ℕ → Answered
+  answered_in form line =
+      option_map_or (answered_there form (kept_of line)) (order_asked (kept_of line))
+      (answered_now recorded form line)
 
   -- a line answered
   abbrev pub answer_in : RecordForm → List ℕ → Answer (Recorded LabState)

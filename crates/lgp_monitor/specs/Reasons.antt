@@ -1,6 +1,6 @@
 -- Part of the public promise: what is said after replies: the reasons of refusals, and the
 -- machine's state after a run that is reported.
-use Rattle.std.specs.Prelude.{ℕ, Bool, false, if◌then◌else◌, List, []}
+use Rattle.std.specs.Prelude.{ℕ, Bool, true, false, if◌then◌else◌, List, []}
 use Rattle.std.specs.Prelude.{◌++◌, codes}
 use Rattle.lgp_fields.specs.Printed.{record_in}
 use Rattle.lgp_fields.specs.declared.records.RecordForm.{RecordForm}
@@ -40,6 +40,11 @@ refused_text refusal =
 unfoldable pub explained_text : LabState → Reply → List ℕ
 explained_text lab (replies.Refused refusal) = refused_text refusal
 explained_text lab reply = reply_text lab reply
+
+-- whether a reply is a refusal
+abbrev pub is_refusal : Reply → Bool
+is_refusal (replies.Refused refusal) = true
+is_refusal reply = false
 
 -- whether a reply leaves open in which state the machine is
 abbrev pub leaves_open : Reply → Bool

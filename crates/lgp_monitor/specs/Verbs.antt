@@ -21,7 +21,7 @@ verb_names =
     ∷ (codes "type", verbs.Text)
     ∷ (codes "turn", verbs.Number number_commands.Script)
     ∷ (codes "orders", verbs.Number number_commands.Script)
-    ∷ (codes "run", verbs.Number number_commands.Script)
+    ∷ (codes "run", verbs.Run)
     ∷ (codes "operate", verbs.Number number_commands.Operate)
     ∷ (codes "trace", verbs.Number (number_commands.Trace reports.Columns))
     ∷ (codes "profile", verbs.Number (number_commands.Profile reports.Columns))
@@ -30,6 +30,7 @@ verb_names =
     ∷ (codes "why", verbs.Address address_commands.Why)
     ∷ (codes "back", verbs.Number number_commands.Script)
     ∷ (codes "last", verbs.Lone lone_commands.Script)
+    ∷ (codes "at", verbs.Moment)
     ∷ (codes "panel", verbs.Lone lone_commands.ScriptQuestion)
     ∷ (codes "words", verbs.Range range_commands.Words)
     ∷ (codes "show", verbs.Range range_commands.Show)
@@ -93,6 +94,7 @@ operands_form (verbs.Number command) = codes " NUMBER"
 operands_form (verbs.NumberAddress reports.Columns) = codes " NUMBER or optimum NUMBER ttss"
 operands_form (verbs.NumberAddress (reports.Records form)) =
     codes " NUMBER or optimum-data NUMBER ttss"
+operands_form verbs.Run = codes " NUMBER or run NUMBER until CONDITION: ttss, a word as put ttss has it, ttss < NUMBER, printed NUMBER or rows NUMBER"
 operands_form (verbs.Range command) = codes " ttss NUMBER, at most 64"
 operands_form verbs.ScaledRange = codes " ttss NUMBER, at most 64, or numbers ttss NUMBER POINT"
 operands_form verbs.CountedRange =
@@ -104,6 +106,8 @@ operands_form verbs.Key = codes " normal, oneop, manual, start, clear, fill, exe
 operands_form verbs.Source =
     codes ", then its lines, then a line with only a point; in the program lgp_monitor also source FILE"
 operands_form verbs.File = codes " FILE, in the program lgp_monitor"
+operands_form verbs.Moment =
+    codes " NUMBER LINE, answered as at the beginning of the order of that number, counted from 0"
 operands_form verbs.Line = codes " LINE, where LINE is one for programs, such as state-data"
 operands_form verbs.Command = codes " or help COMMAND"
 operands_form verbs.End = codes ", which ends the program lgp_monitor"
@@ -114,6 +118,7 @@ operands_kind (verbs.Lone _) = codes " alone\n"
 operands_kind (verbs.Address command) = codes " address\n"
 operands_kind (verbs.Number command) = codes " number\n"
 operands_kind (verbs.NumberAddress form) = codes " number\n"
+operands_kind verbs.Run = codes " number\n"
 operands_kind (verbs.Range command) = codes " range\n"
 operands_kind verbs.ScaledRange = codes " range\n"
 operands_kind verbs.CountedRange = codes " range\n"
@@ -122,6 +127,7 @@ operands_kind verbs.Text = codes " text\n"
 operands_kind verbs.Key = codes " button\n"
 operands_kind verbs.Source = codes " source\n"
 operands_kind verbs.File = codes " file\n"
+operands_kind verbs.Moment = codes " number line\n"
 operands_kind verbs.Line = codes " line\n"
 operands_kind verbs.Command = codes " command\n"
 operands_kind verbs.End = codes " alone\n"
@@ -151,5 +157,6 @@ only_asks (verbs.Address address_commands.Cost) = true
 only_asks (verbs.Number number_commands.PaperData) = true
 only_asks verbs.ScaledRange = true
 only_asks verbs.CountedRange = true
+only_asks verbs.Moment = true
 only_asks verbs.Command = true
 only_asks _ = false

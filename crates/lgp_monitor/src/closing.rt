@@ -1,6 +1,6 @@
 //! What is answered where a point closes a source with faults.
 
-ghost use Rattle.std.specs.Prelude.{◌≡◌, ◌+◌, ◌^◌, ◌<◌, ◌≤◌, ◌++◌, OnOk, [], codes, drop, flat_map};
+ghost use Rattle.std.specs.Prelude.{◌≡◌, ◌+◌, ◌^◌, ◌<◌, ◌≤◌, ◌++◌, ◌||◌, OnOk, [], codes, drop, flat_map, is_some};
 ghost use Rattle.std.specs.Option.{option_copied, option_map_or};
 ghost use Rattle.lgp_assembler.specs.Marks.{marked_text};
 ghost use Rattle.lgp_source.specs.Source.{lines_of};
@@ -203,4 +203,11 @@ pub fn push_closing<A: Allocator + Copy>(
         }
         _ => text.extend_from_slice(said),
     }
+}
+
+/// Whether the source that was closed is refused, which was too long or not.
+pub fn was_faulty<A: Allocator + Copy>(laboratory: &Laboratory<A>, was_too_long: bool) -> bool
+    ensures { result ≡ (was_too_long || is_some laboratory.now.faulty) }
+{
+    was_too_long || laboratory.faulty().is_some()
 }

@@ -11,7 +11,7 @@ ghost use Rattle.lgp_stream.specs.LineWords.{after_word, has_no_word};
 ghost use Rattle.lgp_text.specs.NamedValues.{named};
 ghost use Rattle.lgp_monitor.specs.Verbs.{verb_names};
 ghost use Rattle.lgp_monitor.specs.Wrongs.{name_wrong};
-ghost use Rattle.lgp_monitor.specs.Entry.{address_at, address_entry, and_then, as_objects, asked_alone, asked_as_objects, asked_at, asked_by, asked_of, asked_with, digits_or_fraction, entry_by, entry_of, first_address, in_form, is_data, is_for_programs, is_records, lone_point, lone_word, look_entry, numbers_entry, numbers_wrong, operand_at, operation_at, optimum_entry, optimum_of, plain_entry, point_at, put_entry, question_as_objects, range_at, read_of, report_as_objects, telling_as_objects, typed_by, typed_entry, value_at, value_wrong, whole_at};
+ghost use Rattle.lgp_monitor.specs.Entry.{address_at, address_entry, and_then, as_objects, asked_alone, asked_as_objects, asked_at, asked_by, asked_of, asked_with, bound_at, condition_at, condition_of, digits_or_fraction, entry_by, entry_of, first_address, has_objects, in_form, is_counted, is_data, is_for_programs, is_objects, is_records, lone_point, lone_word, look_entry, numbers_entry, numbers_wrong, operand_at, operation_at, optimum_entry, optimum_of, plain_entry, point_at, put_entry, question_as_objects, range_at, read_of, report_as_objects, run_entry, telling_as_objects, typed_by, typed_entry, value_at, value_wrong, whole_at};
 
 use crate::data_question::DataQuestion;
 use crate::mistake::{Mistake, address_mistake, takes_numbers, takes_place, value_mistake};
@@ -25,6 +25,7 @@ use lgp_command::{Asked, Command, Count, Span, asked_in, is_comment, lone_count}
 use lgp_fields::RecordForm;
 use lgp_fraction::Fraction;
 use lgp_stream::{LineBytes, Split, has_no_word, split_word};
+use lgp_when::Condition;
 use lgp_word::{Address, Word, read_digits};
 
 /// What a typed line asks for.
@@ -42,6 +43,8 @@ pub enum Entry {
     Reported(Telling, Count),
     /// Runs of at most a given number of orders, with Start pressed where the machine has halted at a z after a p, as often at most.
     Operate(Count),
+    /// A run of at most a given number of orders that ends with the one that meets a condition.
+    Until(Condition, Count),
     /// Something that is shown and changes nothing.
     Asked(Question),
     /// The script lines so far.
@@ -186,6 +189,40 @@ fn value_at(names: &[(Name, u16)], place: Address, operands: &[u8]) -> Option<Wo
         Some(word) => Some(word),
         None => operation_at(names, place, operands),
     }
+}
+
+/// The word that comes after `<`.
+fn bound_at(names: &[(Name, u16)], place: Address, operands: &[u8]) -> Option<Word>
+    ensures { result ≡ bound_at names.now place operands.now }
+{
+    match whole_at(names, place, operands) {
+        Some(word) => Some(word),
+        None => value_at(names, place, operands),
+    }
+}
+
+/// The condition on the machine at an address, by what comes after the address.
+fn condition_of(names: &[(Name, u16)], place: Address, value: &[u8]) -> Option<Condition>
+    ensures { result ≡ condition_of names.now place value.now }
+{
+    if has_no_word(value) {
+        return Some(Condition::At(place));
+    }
+    let first = split_word(value);
+    if first.word == b"<".as_slice() {
+        let bound = bound_at(names, place, first.rest)?;
+        return Some(Condition::Below(place, bound));
+    }
+    let word = value_at(names, place, value)?;
+    Some(Condition::Equal(place, word))
+}
+
+/// Whether operands are a name and a number, or what is written in its place.
+fn is_counted(name: &[u8], operands: &[u8]) -> bool
+    ensures { result ≡ is_counted name.now operands.now }
+{
+    let Split { word, rest } = split_word(operands);
+    word == name && !has_no_word(rest)
 }
 
 /// Why the operands of `=`, or of an operation without an address, are no word.
@@ -452,6 +489,49 @@ fn optimum_entry(
     optimum_of(names, counter, form, number.rest, limit)
 }
 
+/// The condition that comes after `until`.
+#[tactic(auto, unfolding(crate::specs::Entry::condition_at))]
+fn condition_at(
+    names: &[(Name, u16)],
+    counter: Address,
+    operands: &[u8],
+) -> Result<Condition, Wrong>
+    ensures { result ≡ condition_at names.now counter operands.now }
+{
+    let rest = split_word(operands).rest;
+    if is_counted(b"printed", operands) {
+        return match lone_count(rest) {
+            Some(count) => Ok(Condition::Printed(count.get())),
+            None => Err(Wrong::Operands(Verb::Run)),
+        };
+    }
+    if is_counted(b"rows", operands) {
+        return match lone_count(rest) {
+            Some(count) => Ok(Condition::Rows(count.get())),
+            None => Err(Wrong::Operands(Verb::Run)),
+        };
+    }
+    let place = first_address(names, counter, Verb::Run, LineWord::Third, operands)?;
+    condition_of(names, place, rest).ok_or(Wrong::Operands(Verb::Run))
+}
+
+/// A run that ends with the order that meets a condition.
+#[tactic(auto, unfolding(crate::specs::Entry::run_entry))]
+fn run_entry(names: &[(Name, u16)], counter: Address, operands: &[u8]) -> Result<Entry, Wrong>
+    ensures { result ≡ run_entry names.now counter operands.now }
+{
+    let number = split_word(operands);
+    let Some(limit) = lone_count(number.word) else {
+        return Err(Wrong::Operands(Verb::Run));
+    };
+    let until = split_word(number.rest);
+    if until.word != b"until".as_slice() {
+        return Err(Wrong::Operands(Verb::Run));
+    }
+    let condition = condition_at(names, counter, until.rest)?;
+    Ok(Entry::Until(condition, limit))
+}
+
 /// What a command asks for by itself; those of scripts are read as scripts have them.
 fn asked_alone(command: LoneCommand) -> Option<Entry>
     ensures { result ≡ asked_alone command }
@@ -505,14 +585,19 @@ fn entry_by(
         Verb::Address(command) => address_entry(names, counter, command, operands),
         Verb::Number(command) => number_entry(command, operands),
         Verb::NumberAddress(form) => optimum_entry(names, counter, form, operands),
+        Verb::Run => run_entry(names, counter, operands),
         Verb::Range(command) => range_entry(names, counter, command, operands),
         Verb::ScaledRange => numbers_entry(names, counter, operands),
         Verb::CountedRange => look_entry(names, counter, operands),
         Verb::Word => put_entry(names, counter, operands),
         Verb::Command => read_of(verb, help_asked(operands)),
-        Verb::Text | Verb::Key | Verb::Source | Verb::File | Verb::Line | Verb::End => Err(
-            Wrong::Operands(verb),
-        ),
+        Verb::Text
+        | Verb::Key
+        | Verb::Source
+        | Verb::File
+        | Verb::Moment
+        | Verb::Line
+        | Verb::End => Err(Wrong::Operands(verb)),
     }
 }
 
@@ -537,6 +622,24 @@ fn is_for_programs(entry: &Entry) -> bool
     match entry {
         Entry::Asked(question) => is_data(question),
         Entry::Reported(telling, _) => is_records(telling.form()),
+        _ => false,
+    }
+}
+
+/// Whether a report has objects of JSON.
+fn is_objects(report: Report) -> bool
+    ensures { result ≡ is_objects report }
+{
+    matches!(report, Report::Records(RecordForm::Objects))
+}
+
+/// Whether the reply to what is asked for has objects of JSON.
+pub fn has_objects(entry: &Entry) -> bool
+    ensures { result ≡ has_objects entry.now }
+{
+    match entry {
+        Entry::Asked(Question::Data(_, RecordForm::Objects)) => true,
+        Entry::Reported(telling, _) => is_objects(telling.form()),
         _ => false,
     }
 }

@@ -1,6 +1,7 @@
 //! The monitor: the program through which a person works the machine.
 #![tactic(auto)]
 
+pub use answered::Answered;
 pub use data_question::DataQuestion;
 pub use entry::Entry;
 pub use mistake::Mistake;
@@ -12,6 +13,7 @@ pub use telling::{Report, Telling};
 pub use verb::{AddressCommand, LoneCommand, NumberCommand, RangeCommand, Verb};
 pub use wrong::{LineWord, Part, Wrong};
 
+mod answered;
 mod closing;
 mod data_question;
 mod entry;
@@ -21,6 +23,7 @@ mod going;
 mod labels;
 pub mod laws;
 mod mistake;
+mod moment;
 mod monitor;
 mod operating;
 mod performing;
@@ -31,5 +34,6 @@ mod reason;
 mod run_end;
 mod scaled;
 mod telling;
+mod until;
 mod verb;
 mod wrong;

@@ -3,13 +3,14 @@
 ghost use Rattle.std.specs.Prelude.{◌≡◌, ◌++◌, ◌≤◌, [], IfOk, OnOk, None};
 ghost use Rattle.lgp_stream.specs.Language.{IsAnswered};
 ghost use Rattle.lgp_monitor.specs.Monitor.{answer_to_operating};
-ghost use Rattle.lgp_monitor.specs.Operating.{has_stopped, is_print, is_stop, op_before, starts_text, waits_for_typewriter};
+ghost use Rattle.lgp_monitor.specs.Operating.{has_stopped, is_print, is_stop, op_before, operated, starts_text, waits_for_typewriter};
 ghost use Rattle.lgp_monitor.specs.OperatingInside.{HasRun, HasRunAgain};
 ghost use Rattle.lgp_monitor.specs.PerformingInside.{IsPerformed};
+ghost use Rattle.lgp_monitor.specs.Reasons.{is_refusal};
 
 use crate::performing::{perform, pressing};
 use crate::progress::Silence;
-use crate::reason::push_explained;
+use crate::reason::{is_refusal, push_explained};
 use lgp_command::{Command, Count};
 use lgp_script::{Laboratory, Reply};
 use lgp_stream::Recorder;
@@ -115,16 +116,18 @@ fn push_starts<A: Allocator>(text: &mut Vec<u8, A>, starts: u64) -> Result<(), A
 }
 
 /// Asks for a run, presses Start where the machine has halted at a z after a p, at most a given number of times, and asks for the
-/// run again.
+/// run again. Returns whether the last run is refused.
 pub fn operate<A: Allocator + Copy>(
     alloc: A,
     recorder: &mut Recorder<Laboratory<A>, A>,
     limit: Count,
     reply: &mut Vec<u8, A>,
-) -> Result<(), AllocError>
+) -> Result<bool, AllocError>
     requires { recorder.old.state.opened ≡ None }
-    ensures { OnOk result (IsAnswered reply.old.items reply.new.items recorder.new
+    ensures answer { OnOk result (IsAnswered reply.old.items reply.new.items recorder.new
         (answer_to_operating recorder.old limit)) }
+    ensures refused { IfOk result (λ refused. refused
+        ≡ is_refusal (operated limit recorder.old.state).last.reply) }
 {
     let mut said = run(alloc, recorder, limit)?;
     let most = limit.get();
@@ -135,5 +138,6 @@ pub fn operate<A: Allocator + Copy>(
         starts += 1;
     }
     push_explained(reply, recorder.answers(), &said)?;
-    push_starts(reply, starts)
+    push_starts(reply, starts)?;
+    Ok(is_refusal(&said))
 }

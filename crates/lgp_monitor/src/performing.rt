@@ -10,10 +10,11 @@ ghost use Rattle.lgp_script.specs.Reply.{IsReplied};
 ghost use Rattle.lgp_script.specs.Script.{opens_source, replied_to, script_language};
 ghost use Rattle.lgp_monitor.specs.Monitor.{explained_command};
 ghost use Rattle.lgp_monitor.specs.PerformingInside.{IsPerformed};
+ghost use Rattle.lgp_monitor.specs.Reasons.{is_refusal};
 
 use crate::portions::run_shown;
 use crate::progress::{Progress, Silence};
-use crate::reason::push_explained;
+use crate::reason::{is_refusal, push_explained};
 use lgp_command::{Button, Command, push_command};
 use lgp_script::{Laboratory, Reply};
 use lgp_stream::Recorder;
@@ -98,7 +99,7 @@ pub fn say<A: Allocator + Copy>(
     recorder.answers().push_reply(reply, &said)
 }
 
-/// Performs a command, and appends its reply, a refusal with its reason.
+/// Performs a command, and appends its reply, a refusal with its reason. Returns whether it is refused.
 pub fn explain<A: Allocator + Copy, P: Progress>(
     alloc: A,
     recorder: &mut Recorder<Laboratory<A>, A>,
@@ -106,11 +107,14 @@ pub fn explain<A: Allocator + Copy, P: Progress>(
     text: &[u8],
     progress: &P,
     reply: &mut Vec<u8, A>,
-) -> Result<(), AllocError>
+) -> Result<bool, AllocError>
     requires { recorder.old.state.opened ≡ None }
-    ensures { OnOk result (IsAnswered reply.old.items reply.new.items recorder.new
+    ensures answer { OnOk result (IsAnswered reply.old.items reply.new.items recorder.new
         (explained_command recorder.old command.now text.now)) }
+    ensures refused { IfOk result (λ refused. refused
+        ≡ is_refusal (replied_to recorder.old.state command.now text.now).reply) }
 {
     let said = perform(alloc, recorder, command, text, progress)?;
-    push_explained(reply, recorder.answers(), &said)
+    push_explained(reply, recorder.answers(), &said)?;
+    Ok(is_refusal(&said))
 }

@@ -1,6 +1,6 @@
 //! Runs that tell how far they are.
 
-ghost use Rattle.std.specs.Prelude.{◌≡◌, [], IfOk, true};
+ghost use Rattle.std.specs.Prelude.{◌≡◌, ◌+◌, ◌-◌, ◌^◌, ◌==◌, [], IfOk, if◌then◌else◌, min, true};
 ghost use Rattle.lgp_debugger.specs.Run.{IsRun};
 ghost use Rattle.lgp_debugger.specs.Watching.{rules_in_force};
 ghost use Rattle.lgp_script.specs.HistoryCommands.{replied_to_run};
@@ -30,7 +30,12 @@ impl<P: Progress> Portions<'_, P> {
     /// One order more is asked for: where it would be the first of a new portion, the number of those done is reported.
     #[inline(always)]
     fn count(&mut self)
-        ensures { self.new.quiet ≡ self.old.quiet }
+        ensures quiet { self.new.quiet ≡ self.old.quiet }
+        ensures left { self.new.left ≡ (if self.old.left == 0
+            then self.old.portion - 1 else self.old.left - 1) }
+        ensures reported { self.new.reported ≡ (if self.old.left == 0
+            then min (self.old.reported + self.old.portion) (2 ^ 64 - 1)
+            else self.old.reported) }
     {
         match self.left.checked_sub(1) {
             Some(left) => self.left = left,

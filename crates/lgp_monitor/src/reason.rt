@@ -1,7 +1,7 @@
 //! What is said after replies: the reasons of refusals, and the machine's state after a run that is reported.
 
 ghost use Rattle.std.specs.Prelude.{◌≡◌, ◌++◌, OnOk};
-ghost use Rattle.lgp_monitor.specs.Reasons.{explained_text, leaves_open, ran_text_in, reason_of, refused_text, run_end_text, stood_text};
+ghost use Rattle.lgp_monitor.specs.Reasons.{explained_text, is_refusal, leaves_open, ran_text_in, reason_of, refused_text, run_end_text, stood_text};
 
 use crate::run_end::{ends_open, push_ran, push_stand};
 use crate::telling::Report;
@@ -65,6 +65,13 @@ pub fn push_explained<A: Allocator + Copy>(
         Reply::Refused(refusal) => push_refused(text, refusal),
         _ => laboratory.push_reply(text, reply),
     }
+}
+
+/// Whether a reply is a refusal.
+pub fn is_refusal(reply: &Reply) -> bool
+    ensures { result ≡ is_refusal reply.now }
+{
+    matches!(reply, Reply::Refused(_))
 }
 
 /// Whether a reply leaves open in which state the machine is.

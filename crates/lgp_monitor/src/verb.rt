@@ -80,6 +80,8 @@ pub enum Verb {
     Number(NumberCommand),
     /// A number, and perhaps an address; what is reported has a form.
     NumberAddress(Report),
+    /// A number, and perhaps a condition.
+    Run,
     /// An address, and how many words from it on.
     Range(RangeCommand),
     /// The same, and perhaps the place after which their point is.
@@ -96,6 +98,8 @@ pub enum Verb {
     Source,
     /// A file, in the program.
     File,
+    /// The number of an order, and a line that is answered as at its beginning.
+    Moment,
     /// A line for programs.
     Line,
     /// A command or nothing.
@@ -105,7 +109,7 @@ pub enum Verb {
 }
 
 /// The commands by their first word.
-const VERBS: [Named<Verb>; 69] = [
+const VERBS: [Named<Verb>; 70] = [
     (b"put", Verb::Word),
     (b"go", Verb::Address(AddressCommand::Go)),
     (b"mount", Verb::Text),
@@ -113,7 +117,7 @@ const VERBS: [Named<Verb>; 69] = [
     (b"type", Verb::Text),
     (b"turn", Verb::Number(NumberCommand::Script)),
     (b"orders", Verb::Number(NumberCommand::Script)),
-    (b"run", Verb::Number(NumberCommand::Script)),
+    (b"run", Verb::Run),
     (b"operate", Verb::Number(NumberCommand::Operate)),
     (
         b"trace",
@@ -128,6 +132,7 @@ const VERBS: [Named<Verb>; 69] = [
     (b"why", Verb::Address(AddressCommand::Why)),
     (b"back", Verb::Number(NumberCommand::Script)),
     (b"last", Verb::Lone(LoneCommand::Script)),
+    (b"at", Verb::Moment),
     (b"panel", Verb::Lone(LoneCommand::ScriptQuestion)),
     (b"words", Verb::Range(RangeCommand::Words)),
     (b"show", Verb::Range(RangeCommand::Show)),
@@ -200,7 +205,7 @@ pub fn named_verbs() -> &'static [Named<Verb>]
 }
 
 /// Where the commands for programs begin: no name in front of it ends in `-data`.
-const FIRST_FOR_PROGRAMS: usize = 47;
+const FIRST_FOR_PROGRAMS: usize = 48;
 
 /// The commands from that one on.
 fn verbs_for_programs() -> &'static [Named<Verb>]
@@ -230,6 +235,9 @@ pub fn operands_form(verb: Verb) -> &'static [u8]
         Verb::Number(_) => b" NUMBER",
         Verb::NumberAddress(Report::Columns) => b" NUMBER or optimum NUMBER ttss",
         Verb::NumberAddress(Report::Records(_)) => b" NUMBER or optimum-data NUMBER ttss",
+        Verb::Run => {
+            b" NUMBER or run NUMBER until CONDITION: ttss, a word as put ttss has it, ttss < NUMBER, printed NUMBER or rows NUMBER"
+        }
         Verb::Range(_) => b" ttss NUMBER, at most 64",
         Verb::ScaledRange => b" ttss NUMBER, at most 64, or numbers ttss NUMBER POINT",
         Verb::CountedRange => b" ttss NUMBER, at most 64, and how many printed codes are known",
@@ -244,6 +252,9 @@ pub fn operands_form(verb: Verb) -> &'static [u8]
             b", then its lines, then a line with only a point; in the program lgp_monitor also source FILE"
         }
         Verb::File => b" FILE, in the program lgp_monitor",
+        Verb::Moment => {
+            b" NUMBER LINE, answered as at the beginning of the order of that number, counted from 0"
+        }
         Verb::Line => b" LINE, where LINE is one for programs, such as state-data",
         Verb::Command => b" or help COMMAND",
         Verb::End => b", which ends the program lgp_monitor",
@@ -258,13 +269,14 @@ pub fn operands_kind(verb: Verb) -> &'static [u8]
     match verb {
         Verb::Lone(_) | Verb::End => b" alone\n",
         Verb::Address(_) => b" address\n",
-        Verb::Number(_) | Verb::NumberAddress(_) => b" number\n",
+        Verb::Number(_) | Verb::NumberAddress(_) | Verb::Run => b" number\n",
         Verb::Range(_) | Verb::ScaledRange | Verb::CountedRange => b" range\n",
         Verb::Word => b" address word\n",
         Verb::Text => b" text\n",
         Verb::Key => b" button\n",
         Verb::Source => b" source\n",
         Verb::File => b" file\n",
+        Verb::Moment => b" number line\n",
         Verb::Line => b" line\n",
         Verb::Command => b" command\n",
     }
@@ -283,7 +295,8 @@ pub fn only_asks(verb: Verb) -> bool
             )
         }
         Verb::Number(command) => matches!(command, NumberCommand::PaperData),
-        Verb::Range(_) | Verb::ScaledRange | Verb::CountedRange | Verb::Command => true,
+        Verb::Range(_) | Verb::ScaledRange | Verb::CountedRange | Verb::Moment | Verb::Command =>
+            true,
         _ => false,
     }
 }

@@ -1,11 +1,12 @@
-use Rattle.std.proofs.Common.{◌≡◌, ◌∙◌, List, ℕ, ap}
+use Rattle.std.proofs.Common.{◌≡◌, ◌∙◌, ◌&&◌, Bool, List, ℕ, ap, not, subst}
 use Rattle.lgp_stream.specs.KeptLine.{Kept, kept_of}
 use Rattle.lgp_stream.specs.Transcript.{Recorded}
-use Rattle.lgp_stream.proofs.AnswerLemmas.{answered_as}
+use Rattle.lgp_stream.specs.Language.{IsAnswered}
 use Rattle.lgp_script.specs.LabState.{LabState, labels_of}
 use Rattle.lgp_fields.specs.declared.records.RecordForm.{RecordForm}
 use Rattle.lgp_monitor.specs.Entry.{entry_of, in_form}
-use Rattle.lgp_monitor.specs.Monitor.{answer_of, entry_at, entry_in}
+use Rattle.lgp_monitor.specs.Monitor.{answer_of, answered_of, entry_at, entry_in, refused_of}
+use Rattle.lgp_monitor.specs.declared.answered.Answered.{Answered}
 use Rattle.lgp_monitor.specs.declared.entry.Entry.{Entry}
 use Rattle.lgp_monitor.proofs.monitor.answer_outside.Goals as goal
 
@@ -17,8 +18,20 @@ asked recorded stands kept text form entry is_kept lab_is is =
     is ∙ (ap (λ (s : LabState). in_form form (entry_of (labels_of s.source) s.debugger.state.core.panel.counter kept)) lab_is
     ∙ ap (λ (k : Kept). in_form form (entry_of (labels_of recorded.state.source) recorded.state.debugger.state.core.panel.counter k)) is_kept)
 
-pub returns : goal.returns
-returns g c = λ text kept.
-    answered_as c.perform.result _ _ _ _ _
-    (ap (λ (e : Entry). answer_of c.args.recorder.now e c.args.line.now) (asked c.args.recorder.now _ _ text c.args.form _ kept c.answers.ensures c.entry_at-entry.ensures))
-    (c.perform.ensures text kept)
+-- what an answer is by whether its line is refused, and whether what it asks for has objects
+abbrev made : Bool → Bool → Answered
+made refused objects = record { is_refused = refused; has_objects = not refused && objects }
+
+pub returns-clause-answer : goal.returns-clause-answer
+returns-clause-answer g c = λ text kept.
+    subst (λ (e : Entry). IsAnswered c.args.reply.now.items c.perform.new.reply.items c.perform.new.recorder (answer_of c.args.recorder.now e c.args.line.now))
+    (asked c.args.recorder.now _ _ text c.args.form _ kept c.answers.ensures c.entry_at-entry.ensures)
+    (c.in_ok-is_refused.ensures.answer text kept)
+
+pub returns-clause-answered : goal.returns-clause-answered
+returns-clause-answered g c = λ text kept.
+    let refused : Bool = refused_of c.args.recorder.now c.entry_at-entry.result c.args.line.now in
+    c.of.ensures
+    ∙ (ap (λ (r : Bool). made r c.has_objects-objects.result) c.in_ok-is_refused.ensures.refused
+    ∙ (ap (made refused) c.has_objects-objects.ensures
+    ∙ ap (λ (e : Entry). answered_of c.args.recorder.now e c.args.line.now) (asked c.args.recorder.now _ _ text c.args.form _ kept c.answers.ensures c.entry_at-entry.ensures)))

@@ -1,11 +1,10 @@
 use Rattle.std.proofs.Common.{◌≡◌, ◌∙◌, ◌++◌, ◌≤◌, ◌-◌, ◌+◌, ℕ, List, suc, append_assoc, ap, arith, sym, true}
-use Rattle.std.proofs.lemmas.Result.{on_ok_weaker}
 use Rattle.lgp_stream.specs.Transcript.{after_lines}
 use Rattle.lgp_script.specs.LabState.{LabState}
 use Rattle.lgp_script.specs.Reply.{Replied}
 use Rattle.lgp_script.specs.Script.{script_language}
 use Rattle.lgp_monitor.specs.Operating.{Operated, operated, starts_text, waits_for_typewriter}
-use Rattle.lgp_monitor.specs.Reasons.{explained_text}
+use Rattle.lgp_monitor.specs.Reasons.{explained_text, is_refusal}
 use Rattle.lgp_monitor.proofs.OperatingLemmas.{IsDone, operated_begun, operated_limit, operated_more, operated_rest}
 use Rattle.lgp_monitor.proofs.operating.operate.Goals.{then-loop-starts-test+else-waits_for_typewriter, else-loop-starts-test}
 use Rattle.lgp_monitor.proofs.operating.operate.Goals as goal
@@ -32,8 +31,8 @@ loop-starts-preserved g c =
           left waits c.in_ok-again.ensures c.loop-starts.invariant.so_far;
     }
 
-pub returns : goal.returns
-returns g c =
+pub returns-clause-answer : goal.returns-clause-answer
+returns-clause-answer g c =
     let whole : Operated = operated c.args.limit c.args.recorder.now.state in
     let before = c.args.reply.now.items in
     let so = c.loop-starts.invariant.so_far in
@@ -46,9 +45,8 @@ returns g c =
           let past = w.loop-starts-test.false in
           operated_limit c.args.limit _ _ _ _ _ _ (omega (arith, past, c.get-most.ensures.value)) so
     ] in
-    on_ok_weaker c.push_starts.result
-    (λ is. record {
-      reply = is
+    record {
+      reply = c.in_ok-push_starts.ensures
           ∙ (ap (λ (t : List ℕ). t ++ starts_text c.loop-starts.starts)
           (c.in_ok-push_explained.ensures
           ∙ (ap (λ (s : LabState). before ++ explained_text s c.loop-starts.said) c.answers-2.ensures
@@ -56,5 +54,19 @@ returns g c =
           ∙ (ap (λ (n : ℕ). (before ++ explained_text whole.last.after whole.last.reply) ++ starts_text n) done.starts
           ∙ append_assoc before (explained_text whole.last.after whole.last.reply) (starts_text whole.starts)));
       after = done.lines;
-    })
-    c.push_starts.ensures
+    }
+
+pub returns-clause-refused : goal.returns-clause-refused
+returns-clause-refused g c =
+    let whole : Operated = operated c.args.limit c.args.recorder.now.state in
+    let so = c.loop-starts.invariant.so_far in
+    let done : IsDone c.loop-starts.recorder c.loop-starts.said c.loop-starts.starts (after_lines script_language c.args.recorder.now whole.lines) whole =
+    elim c.loop-starts-test.branch [
+      | then-loop-starts-test+else-waits_for_typewriter w ↦
+          operated_rest c.args.limit _ _ _ _ _ _
+          (sym (ap waits_for_typewriter w.answers.ensures) ∙ (sym w.waits_for_typewriter.ensures ∙ w.if-waits_for_typewriter.false)) so
+      | else-loop-starts-test w ↦
+          let past = w.loop-starts-test.false in
+          operated_limit c.args.limit _ _ _ _ _ _ (omega (arith, past, c.get-most.ensures.value)) so
+    ] in
+    c.is_refusal.ensures ∙ ap (λ (r : Replied). is_refusal r.reply) done.reply
