@@ -1,11 +1,11 @@
-//! The laboratory for programs that are not written in Rattle: the functions of `c/lgp30.h`.
+//! The laboratory for programs that are not written in Rattle: the functions of `libraries/c/lgp30.h`.
 #![tactic(auto)]
 
 ghost use Rattle.lgp_call.specs.Reply.{IsScriptGiven, IsSourceAnswered};
-ghost use Rattle.lgp_call.specs.Session.{after_line, closing_reply};
+ghost use Rattle.lgp_call.specs.Session.{after_line, closing_refused, closing_reply};
 ghost use Rattle.lgp_call.specs.Slot.{HasManner, IsClosed, IsDone, IsOpened, IsRepeated, IsWishing};
 ghost use Rattle.lgp_call.specs.Telling.{after_shown, after_told};
-ghost use Rattle.lgp_desk.specs.Desk.{closing_text};
+ghost use Rattle.lgp_desk.specs.Desk.{closing_refuses, closing_text};
 ghost use Rattle.std.specs.Global.{Global};
 
 use lgp_call::{Outcome, Session, refuse, run_into, source_into};
@@ -119,7 +119,7 @@ pub extern "C" fn lgp_close(
     room: &mut [u8],
     outcome: &mut Outcome,
 ) -> u32
-    ensures { IsClosed closing_reply session.old.held session.new.held
+    ensures { IsClosed closing_refused closing_reply session.old.held session.new.held
         room.old room.new outcome.new result }
 {
     match session.take(alloc) {
@@ -209,8 +209,8 @@ pub extern "C" fn lgp_leave(
     room: &mut [u8],
     outcome: &mut Outcome,
 ) -> u32
-    ensures { IsClosed (λ state. closing_text state.seat) session.old.held session.new.held
-        room.old room.new outcome.new result }
+    ensures { IsClosed (λ state. closing_refuses state.seat) (λ state. closing_text state.seat)
+        session.old.held session.new.held room.old room.new outcome.new result }
 {
     match session.take(alloc) {
         Some(whole) => Box::into_inner(whole).leave_into(room, outcome),

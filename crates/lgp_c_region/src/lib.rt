@@ -1,11 +1,11 @@
-//! The laboratory for programs without `malloc`, which hand their memory over: the functions of `c/lgp30.h` over given memory.
+//! The laboratory for programs without `malloc`, which hand their memory over: the functions of `libraries/c/lgp30.h` over given memory.
 #![tactic(auto)]
 
 ghost use Rattle.lgp_call.specs.Reply.{IsScriptGiven, IsSourceAnswered};
-ghost use Rattle.lgp_call.specs.Session.{after_line, closing_reply};
+ghost use Rattle.lgp_call.specs.Session.{after_line, closing_refused, closing_reply};
 ghost use Rattle.lgp_call.specs.Slot.{HasManner, IsClosed, IsDone, IsOpened, IsRepeated, IsWishing};
 ghost use Rattle.lgp_call.specs.Telling.{after_shown, after_told};
-ghost use Rattle.lgp_desk.specs.Desk.{closing_text};
+ghost use Rattle.lgp_desk.specs.Desk.{closing_refuses, closing_text};
 ghost use Rattle.std.specs.Borrow.{Bor};
 ghost use Rattle.lgp_region.specs.declared.region.Region.{Region};
 
@@ -112,7 +112,7 @@ pub extern "C" fn lgp_reply_in(session: &mut Slot, room: &mut [u8], outcome: &mu
 /// Status 5 says that none is open: then nothing has changed but the outcome, whose numbers are 0.
 #[unsafe(no_mangle)]
 pub extern "C" fn lgp_close_in(session: &mut Slot, room: &mut [u8], outcome: &mut Outcome) -> u32
-    ensures { IsClosed closing_reply session.old.held session.new.held
+    ensures { IsClosed closing_refused closing_reply session.old.held session.new.held
         room.old room.new outcome.new result }
 {
     match session.take() {
@@ -195,8 +195,8 @@ pub extern "C" fn lgp_manner_in(session: &mut Slot, number: u32) -> u32
 /// Tells a session that no line is typed any more, and closes it, as `Session::leave_into` does. The status is that of `lgp_close_in`.
 #[unsafe(no_mangle)]
 pub extern "C" fn lgp_leave_in(session: &mut Slot, room: &mut [u8], outcome: &mut Outcome) -> u32
-    ensures { IsClosed (λ state. closing_text state.seat) session.old.held session.new.held
-        room.old room.new outcome.new result }
+    ensures { IsClosed (λ state. closing_refuses state.seat) (λ state. closing_text state.seat)
+        session.old.held session.new.held room.old room.new outcome.new result }
 {
     match session.take() {
         Some(whole) => Box::into_inner(whole).leave_into(room, outcome),

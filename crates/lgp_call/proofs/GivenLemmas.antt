@@ -3,9 +3,10 @@ use Rattle.std.proofs.Common.{◌≡◌, ℕ, suc, ◌+◌, ◌-◌, ◌<◌, �
 use Rattle.std.proofs.lemmas.Bool.Decides.{nat_tests}
 use Rattle.lgp_stream.specs.declared.stream.StreamFault.{StreamFault}
 use Rattle.lgp_call.specs.Reply.{IsGiven, IsGivenUnlessMemory, IsTextGiven}
+use Rattle.lgp_desk.specs.Desk.{Seat, closing_text}
 use Rattle.lgp_call.specs.Session.{SessionState, questions_in}
 use Rattle.lgp_call.specs.Status.{answered_status}
-use Rattle.lgp_call.specs.Telling.{after_told, told_of}
+use Rattle.lgp_call.specs.Telling.{after_told, forgetful, told_of}
 use Rattle.lgp_call.specs.declared.script.Outcome.{Outcome}
 
 -- ---- a reply, which has a status below those that say why none is given
@@ -19,10 +20,11 @@ answered-small questions = by_test (nat_lt 0 questions) where
 never-both : (status small : ℕ) → status ≡ small → small < 2 → 2 ≤ status → ⊥
 never-both status small is less more = grind arith
 
-pub given-reply : (reply given before after : List ℕ) (outcome : Outcome) (status : ℕ) → given ≡ reply → IsGiven given before after outcome status → IsGivenUnlessMemory reply before after outcome status
-given-reply reply given before after outcome status is has = record {
-  given = λ less. subst (λ (text : List ℕ). IsGiven text before after outcome status) is has;
-  refused = λ more. absurd (never-both status (answered_status (questions_in given)) has.status_of (answered-small (questions_in given)) more);
+pub given-reply : (refused said : Bool) (reply given before after : List ℕ) (outcome : Outcome) (status : ℕ) → said ≡ refused → given ≡ reply → IsGiven said given before after outcome status
+    → IsGivenUnlessMemory refused reply before after outcome status
+given-reply refused said reply given before after outcome status so is has = record {
+  given = λ less. subst (λ (it : Bool). IsGiven it reply before after outcome status) so (subst (λ (text : List ℕ). IsGiven said text before after outcome status) is has);
+  refused = λ more. absurd (never-both status (answered_status (questions_in said)) has.status_of (answered-small (questions_in said)) more);
 }
 
 -- ---- a text, which was put after none
@@ -48,5 +50,11 @@ none-told what text is = subst (λ (number : ℕ). told_of number text ≡ None)
 not-zero : (what more : ℕ) → what ≡ 10 + more → (what == 0) ≡ false
 not-zero what more is = grind (arith, nat_tests)
 
-pub nothing-told : (session : SessionState) (what : ℕ) (text : List ℕ) → what ≡ 10 + (what - 10) → session.seat ≡ (after_told session what text).seat
+pub nothing-told : (session : SessionState) (what : ℕ) (text : List ℕ) → what ≡ 10 + (what - 10) → forgetful session.seat ≡ (after_told session what text).seat
 nothing-told session what text is = rw (not-zero what (what - 10) is) (rw (none-told what text is) refl)
+
+-- ---- what is said at the end does not ask what was refused before
+
+pub forgotten-closing : (seat : Seat) → closing_text (forgetful seat) ≡ closing_text seat
+unfolding closing_text
+forgotten-closing seat = refl

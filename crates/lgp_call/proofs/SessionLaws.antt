@@ -6,12 +6,13 @@ use Rattle.lgp_stream.specs.Transcript.{IsLine, IsReportedByTranscript}
 use Rattle.lgp_stream.proofs.LineLaws.{IsReported-all, IsReported-meaning, IsReported-none}
 use Rattle.lgp_script.specs.Script.{script_language}
 use Rattle.lgp_script.specs.LabState.{opening_state}
-use Rattle.lgp_monitor.specs.Monitor.{meaning_at, monitor_language}
+use Rattle.lgp_fields.specs.declared.records.RecordForm.TheVariants.{Lines}
+use Rattle.lgp_monitor.specs.Monitor.{answered_in, meaning_at, monitor_language}
 use Rattle.lgp_monitor.proofs.LineLemmas.{free-at}
 use Rattle.lgp_desk.specs.Desk.{IsTyped, Told, said_to}
 use Rattle.lgp_desk.specs.declared.writing.Manner.{Manner}
 use Rattle.lgp_desk.proofs.TranscriptLaws.{AreSayable, IsReported-at, reported-told}
-use Rattle.lgp_call.specs.Telling.{Asks, Deed, Sets, Shows, Tells, AreSayableDeeds, after_deed, after_deeds, after_shown, after_told, handed_for, manner_of, told_of, with_told}
+use Rattle.lgp_call.specs.Telling.{Asks, Deed, Sets, Shows, Tells, AreSayableDeeds, after_deed, after_deeds, after_shown, after_told, are_several, forgetful, handed_for, manner_of, told_of, with_nothing, with_told}
 use Rattle.lgp_call.specs.Session.{SessionState, after_all, after_line, has_line_feed, more_than_a_line, opening_session}
 
 -- bytes without a line feed are a line
@@ -29,8 +30,8 @@ line_without (b ∷ line) none = by_first (is_line_feed b) (has_line_feed line) 
 reported_line : (session : SessionState) (line : List ℕ) → IsReported-at session.seat → IsReported-at (after_line session line).seat
 reported_line session line reported = by_feed (has_line_feed line) refl where
   by_feed : (feed : Bool) → has_line_feed line ≡ feed
-      → IsReported-at (cond feed (record session { reply = more_than_a_line })
-      (record { seat = record session.seat { recorded = monitor_language.after session.seat.recorded line }; reply = monitor_language.reply session.seat.recorded line })).seat
+      → IsReported-at (cond feed (record session { reply = more_than_a_line; refused = true })
+      (record { seat = record session.seat { recorded = monitor_language.after session.seat.recorded line }; reply = monitor_language.reply session.seat.recorded line; refused = (answered_in session.seat.recorded Lines line).is_refused })).seat
   by_feed true e = reported
   by_feed false e = (
     IsReported-meaning script_language opening_state session.seat.recorded (meaning_at session.seat.recorded line) reported.0
@@ -70,15 +71,15 @@ free_told (suc (suc (suc (suc (suc (suc (suc (suc (suc zero))))))))) text none =
 free_told (suc (suc (suc (suc (suc (suc (suc (suc (suc (suc more)))))))))) text none = tt
 
 reported_told : (session : SessionState) (what : ℕ) (text : List ℕ) → AreSayable (handed_for session (Tells what text)) → IsReported-at session.seat → IsReported-at (after_told session what text).seat
-reported_told session what text sayable reported = by_feed (what == 0 && has_line_feed text) refl sayable where
-  by_told : (told : Option Told) → IsFreeTold told → AreSayable (option_map_or (λ (it : Told). (said_to session.seat it).handed) told [])
-      → IsReported-at (option_map_or (with_told session) told (record session { reply = [] })).seat
-  by_told (Some told) free all = reported-told session.seat told free reported all
+reported_told session what text sayable reported = by_feed (are_several what text) refl sayable where
+  by_told : (told : Option Told) → IsFreeTold told → AreSayable (option_map_or (λ (it : Told). (said_to (forgetful session.seat) it).handed) told [])
+      → IsReported-at (option_map_or (with_told session) told (with_nothing session [] false)).seat
+  by_told (Some told) free all = reported-told (forgetful session.seat) told free reported all
   by_told None free all = reported
 
-  by_feed : (several : Bool) → (what == 0 && has_line_feed text) ≡ several
-      → AreSayable (cond several [] (option_map_or (λ (it : Told). (said_to session.seat it).handed) (told_of what text) []))
-      → IsReported-at (cond several (record session { reply = more_than_a_line }) (option_map_or (with_told session) (told_of what text) (record session { reply = [] }))).seat
+  by_feed : (several : Bool) → are_several what text ≡ several
+      → AreSayable (cond several [] (option_map_or (λ (it : Told). (said_to (forgetful session.seat) it).handed) (told_of what text) []))
+      → IsReported-at (cond several (with_nothing session more_than_a_line true) (option_map_or (with_told session) (told_of what text) (with_nothing session [] false))).seat
   by_feed true e all = reported
   by_feed false e all = by_told (told_of what text) (free_told what text e) all
 

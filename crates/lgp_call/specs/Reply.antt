@@ -1,5 +1,5 @@
 -- Part of the public promise: what a call gives for a reply.
-use Rattle.std.specs.Prelude.{◌≡◌, ◌<◌, ◌≤◌, ℕ, List, [], ◌∷◌, length, slice_get}
+use Rattle.std.specs.Prelude.{◌≡◌, ◌<◌, ◌≤◌, ℕ, Bool, List, [], ◌∷◌, length, slice_get}
 use Rattle.std.specs.Option.{option_map_or}
 use Rattle.lgp_script.specs.Files.{FileAnswer, asm_answer, run_answer, tape_answer}
 use Rattle.lgp_script.specs.Script.{script_faults, script_text}
@@ -8,13 +8,13 @@ use Rattle.lgp_call.specs.Session.{no_outcome, outcome_of, questions_in}
 use Rattle.lgp_call.specs.Status.{answered_status, memory_status, unread_status}
 use Rattle.lgp_call.specs.declared.script.Outcome.{Outcome}
 
--- the reply is given: the status says whether it begins with a question mark, its bytes are in the
--- room, as far as they fit, and the outcome reports it
-pub record IsGiven (reply : List ℕ) (before : List ℕ) (after : List ℕ) (outcome : Outcome)
-    (status : ℕ) : Type 0 where
-  pub status_of : status ≡ answered_status (questions_in reply)
+-- the reply is given: the status says whether it is a refusal, its bytes are in the room, as far as
+-- they fit, and the outcome reports it
+pub record IsGiven (is_refused : Bool) (reply : List ℕ) (before : List ℕ) (after : List ℕ)
+    (outcome : Outcome) (status : ℕ) : Type 0 where
+  pub status_of : status ≡ answered_status (questions_in is_refused)
   pub written : after ≡ filled reply before
-  pub reported : outcome ≡ outcome_of reply
+  pub reported : outcome ≡ outcome_of is_refused reply
 
 -- no reply is given, and the status says why
 pub record IsNotGiven (why : ℕ) (before : List ℕ) (after : List ℕ) (outcome : Outcome)
@@ -24,9 +24,9 @@ pub record IsNotGiven (why : ℕ) (before : List ℕ) (after : List ℕ) (outcom
   pub unreported : outcome ≡ no_outcome
 
 -- the reply is given, unless there was not enough memory for it
-pub record IsGivenUnlessMemory (reply : List ℕ) (before : List ℕ) (after : List ℕ)
-    (outcome : Outcome) (status : ℕ) : Type 0 where
-  pub given : status < unread_status → IsGiven reply before after outcome status
+pub record IsGivenUnlessMemory (is_refused : Bool) (reply : List ℕ) (before : List ℕ)
+    (after : List ℕ) (outcome : Outcome) (status : ℕ) : Type 0 where
+  pub given : status < unread_status → IsGiven is_refused reply before after outcome status
   pub refused : unread_status ≤ status → IsNotGiven memory_status before after outcome status
 
 -- a text with so many questions is given: the status says whether there are any, its bytes are in

@@ -1,6 +1,6 @@
 -- Part of the public promise: what the calls of other languages do with the place of a session, in
 -- which one is open or none.
-use Rattle.std.specs.Prelude.{◌≡◌, ◌<◌, ◌≤◌, ℕ, List, Option, Some, None}
+use Rattle.std.specs.Prelude.{◌≡◌, ◌<◌, ◌≤◌, ℕ, Bool, List, Option, Some, None}
 use Rattle.lgp_desk.specs.Desk.{wish_at}
 use Rattle.lgp_call.specs.Reply.{IsGiven, IsGivenUnlessMemory, IsNotGiven}
 use Rattle.lgp_call.specs.Session.{SessionState, opening_session}
@@ -23,7 +23,7 @@ pub record IsDone (next : SessionState → SessionState) (old : Option SessionSt
     (new : Option SessionState) (before : List ℕ) (after : List ℕ) (outcome : Outcome)
     (status : ℕ) : Type 0 where
   pub given : (state : SessionState) → old ≡ Some state
-      → IsGivenUnlessMemory (next state).reply before after outcome status
+      → IsGivenUnlessMemory (next state).refused (next state).reply before after outcome status
   pub stands : (state : SessionState) → old ≡ Some state → status < unread_status
       → new ≡ Some (next state)
   pub ended : unread_status ≤ status → new ≡ None
@@ -33,16 +33,16 @@ pub record IsDone (next : SessionState → SessionState) (old : Option SessionSt
 pub record IsRepeated (old : Option SessionState) (new : Option SessionState)
     (before : List ℕ) (after : List ℕ) (outcome : Outcome) (status : ℕ) : Type 0 where
   pub repeated : (state : SessionState) → old ≡ Some state
-      → IsGiven state.reply before after outcome status
+      → IsGiven state.refused state.reply before after outcome status
   pub unchanged : new ≡ old
   pub closed : old ≡ None → IsNotGiven closed_status before after outcome status
 
--- the session is closed, and this text is given
-pub record IsClosed (text : SessionState → List ℕ) (old : Option SessionState)
-    (new : Option SessionState) (before : List ℕ) (after : List ℕ) (outcome : Outcome)
-    (status : ℕ) : Type 0 where
+-- the session is closed, and this text is given, as a refusal or not
+pub record IsClosed (refused : SessionState → Bool) (text : SessionState → List ℕ)
+    (old : Option SessionState) (new : Option SessionState) (before : List ℕ) (after : List ℕ)
+    (outcome : Outcome) (status : ℕ) : Type 0 where
   pub given : (state : SessionState) → old ≡ Some state
-      → IsGivenUnlessMemory (text state) before after outcome status
+      → IsGivenUnlessMemory (refused state) (text state) before after outcome status
   pub ended : new ≡ None
   pub closed : old ≡ None → IsNotGiven closed_status before after outcome status
 

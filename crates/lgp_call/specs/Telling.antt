@@ -1,6 +1,6 @@
 -- Part of the public promise: what the desk of a session is told and what it shows, each by its
 -- number.
-use Rattle.std.specs.Prelude.{ℕ, ◌==◌, ◌&&◌, true, false, fold, if◌then◌else◌, Option}
+use Rattle.std.specs.Prelude.{ℕ, ◌==◌, ◌&&◌, Bool, true, false, fold, if◌then◌else◌, Option}
 use Rattle.std.specs.Prelude.{unwrap_or, List, [], ◌∷◌, slice_get, Ok, Err}
 use Rattle.std.specs.List.{AllByRecursion}
 use Rattle.std.specs.Option.{option_map_or}
@@ -24,18 +24,29 @@ told_of what text = slice_get (
     ∷ Found (Err NotOpened) ∷ Found (Err NotRead) ∷ Found (Err TooLong) ∷ Found (Err NotNamed)
     ∷ Kept true ∷ Kept false ∷ []) what
 
--- a session after something that its desk is told, with the text that is to be written
+-- a desk that knows of no refusal yet
+abbrev pub forgetful : Seat → Seat
+forgetful seat = record seat { has_refused = false }
+
+-- a session after something that its desk is told, with the text that is to be written, and whether
+-- something in it is refused
 abbrev pub with_told : SessionState → Told → SessionState
-with_told session told = record {
-  seat = (said_to session.seat told).seat;
-  reply = (said_to session.seat told).text;
-}
+with_told session told =
+    let said = said_to (forgetful session.seat) told in
+    record { seat = said.seat; reply = said.text; refused = said.seat.has_refused }
 
 -- the same by its number; several lines are refused, and of another number nothing is done
+abbrev pub are_several : ℕ → List ℕ → Bool
+are_several what text = what == 0 && has_line_feed text
+
+abbrev pub with_nothing : SessionState → List ℕ → Bool → SessionState
+with_nothing session reply refused =
+    record { seat = forgetful session.seat; reply = reply; refused = refused }
+
 abbrev pub after_told : SessionState → ℕ → List ℕ → SessionState
 after_told session what text =
-    if what == 0 && has_line_feed text then record session { reply = more_than_a_line }
-    else option_map_or (with_told session) (told_of what text) (record session { reply = [] })
+    if are_several what text then with_nothing session more_than_a_line true
+    else option_map_or (with_told session) (told_of what text) (with_nothing session [] false)
 
 -- what it wishes for
 abbrev pub wish_number : Wish → ℕ
@@ -59,7 +70,8 @@ shown_of seat what = unwrap_or (slice_get (
     prompt_of seat ∷ wanted_name seat ∷ kept_in seat (wish_at seat) ∷ []) what) []
 
 unfoldable pub after_shown : SessionState → ℕ → SessionState
-after_shown session what = record session { reply = shown_of session.seat what }
+after_shown session what =
+    record session { reply = shown_of session.seat what; refused = false }
 
 -- how replies are written, by its number
 abbrev pub manner_of : ℕ → Option Manner
@@ -90,8 +102,9 @@ after_deeds session deeds = fold after_deed session deeds
 
 -- what the monitor is handed for something that the desk is told
 abbrev pub handed_for : SessionState → Deed → List Handed
-handed_for session (Tells what text) = if what == 0 && has_line_feed text then []
-    else option_map_or (λ told. (said_to session.seat told).handed) (told_of what text) []
+handed_for session (Tells what text) = if are_several what text then []
+    else option_map_or (λ told. (said_to (forgetful session.seat) told).handed)
+    (told_of what text) []
 handed_for session deed = []
 
 -- a script can say all that the monitor is handed

@@ -1,6 +1,7 @@
 //! Replies as they are written.
-ghost use Rattle.std.specs.Prelude.{◌≡◌, [], IfOk, IsErr, List, Some, false, ℕ};
+ghost use Rattle.std.specs.Prelude.{◌≡◌, [], IfErr, IfOk, IsErr, List, Some, false, ℕ};
 ghost use Rattle.lgp_call.specs.Reply.{IsTextGiven};
+ghost use Rattle.lgp_call.specs.Status.{fault_status};
 
 use crate::room::fill;
 use crate::script::Outcome;
@@ -56,6 +57,7 @@ pub(crate) fn give(
 ) -> u32
     ensures given { IfOk answered (λ questions. IsTextGiven replies.now questions
         room.old room.new outcome.new result) }
+    ensures status { IfErr answered (λ fault. result ≡ fault_status fault) }
     ensures refused { IsErr answered → (text : List ℕ) → (questions : ℕ)
         → IsTextGiven text questions room.old room.new outcome.new result }
 {

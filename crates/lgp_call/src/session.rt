@@ -2,14 +2,14 @@
 
 ghost use Rattle.std.specs.Prelude.{◌≡◌, ◌<◌, IfOk, OnOk};
 ghost use Rattle.lgp_call.specs.Reply.{IsGiven, IsGivenUnlessMemory};
-ghost use Rattle.lgp_call.specs.Session.{after_line, closing_reply, has_line_feed, no_outcome, opening_session};
+ghost use Rattle.lgp_call.specs.Session.{after_line, closing_refused, closing_reply, has_line_feed, no_outcome, opening_session};
 ghost use Rattle.lgp_call.specs.Status.{unread_status};
 
 use crate::room::fill;
 use crate::script::Outcome;
 use lgp_desk::{Desk, Manner};
 use lgp_monitor::Silence;
-use lgp_stream::{LineBytes, is_question};
+use lgp_stream::LineBytes;
 use std::alloc::{AllocError, Allocator};
 use std::marker::Model;
 
@@ -30,6 +30,7 @@ pub struct Session<A: Allocator + Copy> {
     alloc: A,
     desk: Desk<A, Silence>,
     reply: Vec<u8, A>,
+    refused: bool,
 }
 
 // Written out: a derived drop is copied to each place where one is dropped.
@@ -39,6 +40,7 @@ impl<A: Allocator + Copy> Drop for Session<A> {
             alloc: _,
             desk: _,
             reply: _,
+            refused: _,
         } = self;
     }
 }
@@ -51,6 +53,7 @@ impl<A: Allocator + Copy> Model for Session<A> {
     ghost view = { λ session. record {
       seat = session.desk;
       reply = session.reply.items;
+      refused = session.refused;
     } };
 }
 
@@ -64,6 +67,7 @@ impl<A: Allocator + Copy> Session<A> {
             alloc,
             desk,
             reply: Vec::new(alloc),
+            refused: false,
         })
     }
 
@@ -83,31 +87,36 @@ impl<A: Allocator + Copy> Session<A> {
     {
         self.reply.clear();
         if has_line_feed(line) {
+            self.refused = true;
             return self.reply.extend_from_slice(MORE_THAN_A_LINE);
         }
-        self.desk.ask_monitor(&LineBytes::of(line), &mut self.reply)
+        self.refused = self
+            .desk
+            .ask_monitor(&LineBytes::of(line), &mut self.reply)?;
+        Ok(())
     }
 
     /// Answers the session's end: a source that is open is closed with its reply, otherwise the reply is empty.
     pub fn end(&mut self) -> Result<(), AllocError>
-        ensures { OnOk result (self.new.reply ≡ closing_reply self.old) }
+        ensures reply { OnOk result (self.new.reply ≡ closing_reply self.old) }
+        ensures refused { OnOk result (self.new.refused ≡ closing_refused self.old) }
     {
         self.reply.clear();
-        self.desk.close_monitor(&mut self.reply)
+        self.refused = self.desk.close_monitor(&mut self.reply)?;
+        Ok(())
     }
 
-    /// Writes the last reply into the room, as far as it fits, and tells its whole length. The answer is the status of a reply.
+    /// Writes the last reply into the room, as far as it fits, and tells its whole length. The answer is 1 where it is a refusal, and else 0.
     pub fn give_reply(&self, room: &mut [u8], outcome: &mut Outcome) -> u32
-        ensures { IsGiven self.now.reply room.old room.new outcome.new result }
+        ensures { IsGiven self.now.refused self.now.reply room.old room.new outcome.new result }
     {
         let reply = self.reply.as_slice();
-        let is_question = is_question(reply);
         fill(room, reply);
         *outcome = Outcome {
-            questions: u64::from(is_question),
+            questions: u64::from(self.refused),
             length: reply.len() as u64,
         };
-        u32::from(is_question)
+        u32::from(self.refused)
     }
 
     /// Answers a line, and gives its reply as `give_reply` does.
@@ -116,8 +125,8 @@ impl<A: Allocator + Copy> Session<A> {
     /// are 0, and the session's state is left open: nothing more is to be asked of it.
     pub fn answer_into(&mut self, line: &[u8], room: &mut [u8], outcome: &mut Outcome) -> u32
         ensures after { result < unread_status → self.new ≡ after_line self.old line.now }
-        ensures reply { IsGivenUnlessMemory (after_line self.old line.now).reply room.old room.new
-            outcome.new result }
+        ensures reply { IsGivenUnlessMemory (after_line self.old line.now).refused
+            (after_line self.old line.now).reply room.old room.new outcome.new result }
     {
         match self.answer_line(line) {
             Ok(()) => self.give_reply(room, outcome),
@@ -129,7 +138,8 @@ impl<A: Allocator + Copy> Session<A> {
     /// status is: 0, 1, or 3 where there was not enough memory for the reply. With 3 nothing is written into the room, and both numbers
     /// of the outcome are 0.
     pub fn close_into(mut self, room: &mut [u8], outcome: &mut Outcome) -> u32
-        ensures { IsGivenUnlessMemory (closing_reply self) room.old room.new outcome.new result }
+        ensures { IsGivenUnlessMemory (closing_refused self) (closing_reply self)
+            room.old room.new outcome.new result }
     {
         match self.end() {
             Ok(()) => self.give_reply(room, outcome),

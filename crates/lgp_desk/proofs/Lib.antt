@@ -1,9 +1,12 @@
 pub mod FormLemmas
 pub mod FileLemmas
+pub mod GrantLemmas
 pub mod OpenLemmas
 pub mod SourceLemmas
 pub mod WishLaws
 pub mod ToldLemmas
 pub mod ServedLemmas
+pub mod DrawerLaws
+pub mod SessionLaws
 pub mod TranscriptLaws
 pub mod KeptLaws

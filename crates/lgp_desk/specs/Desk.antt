@@ -14,14 +14,15 @@ use Rattle.std.specs.Str.Lines.{lines}
 use Rattle.lgp_word.specs.Digits.{address_digits}
 use Rattle.lgp_flexo.specs.TapeText.{written_tape}
 use Rattle.lgp_stream.specs.KeptLine.{kept_of}
-use Rattle.lgp_stream.specs.Language.{is_question}
 use Rattle.lgp_stream.specs.Transcript.{IsLine, Recorded, untouched}
 use Rattle.lgp_text.specs.PanelWords.{status_text}
 use Rattle.lgp_script.specs.LabState.{LabState, opening_state}
-use Rattle.lgp_monitor.specs.FileTexts.{answer_to_dump, answer_to_tape}
+use Rattle.lgp_monitor.specs.Closing.{is_faulty}
+use Rattle.lgp_monitor.specs.FileTexts.{answer_to_dump, answer_to_tape, refuses_dump, refuses_tape}
 use Rattle.lgp_fields.specs.declared.records.RecordForm.{RecordForm}
 use Rattle.lgp_fields.specs.declared.records.RecordForm.TheVariants.{Lines, Objects}
-use Rattle.lgp_monitor.specs.Monitor.{monitor_language, panel_at, reply_in}
+use Rattle.lgp_monitor.specs.Monitor.{answered_in, monitor_language, panel_at, reply_in}
+use Rattle.lgp_monitor.specs.declared.answered.Answered.{Answered}
 use Rattle.lgp_desk.specs.FileForms.{dump_in, tape_of}
 use Rattle.lgp_desk.specs.Json.{json_answer, json_own}
 use Rattle.lgp_desk.specs.Requests.{is_quit, request_of}
@@ -84,30 +85,35 @@ and_then first more = record {
   seat = (more first.seat).seat;
 }
 
--- a text is written, which is a refusal where it begins with a question mark
-abbrev pub marked : Seat → List ℕ → Seat
-marked seat text = record seat { has_refused = seat.has_refused || is_question text }
+-- a text is written, which is a refusal or not
+abbrev pub marked : Seat → Bool → Seat
+marked seat refused = record seat { has_refused = seat.has_refused || refused }
 
-abbrev pub saying : List ℕ → List Handed → Seat → Said
-saying text handed seat = record { text = text; handed = handed; seat = marked seat text }
+abbrev pub saying : List ℕ → Bool → List Handed → Seat → Said
+saying text refused handed seat =
+    record { text = text; handed = handed; seat = marked seat refused }
 
 -- ---- what is written for a reply
 
--- a line above its reply, after a question mark where the reply begins with one; of a longer line
--- its front, and two points
-unfoldable pub echo_of : List ℕ → Bool → List ℕ → List ℕ
-echo_of front longer reply =
-    (if is_question reply then codes "? " else codes "> ")
+-- what is answered in text alone, as a refusal or not
+abbrev pub plainly : Bool → Answered
+plainly refused = record { is_refused = refused; has_objects = false }
+
+-- a line above its reply, after a question mark where it is refused; of a longer line its front, and
+-- two points
+unfoldable pub echo_of : Bool → List ℕ → Bool → List ℕ
+echo_of refused front longer =
+    (if refused then codes "? " else codes "> ")
     ++ (front ++ (if longer then codes " ..\n" else codes "\n"))
 
 abbrev pub echo_in : Manner → List ℕ → List ℕ
 echo_in Echoing echo = echo
 echo_in manner echo = []
 
--- after a reply that begins with a question mark, where its line comes from
-unfoldable pub note_line : List ℕ → List ℕ → List ℕ
-note_line note reply =
-    if is_question reply && not (length note == 0)
+-- after a refusal, where its line comes from
+unfoldable pub note_line : Bool → List ℕ → List ℕ
+note_line refused note =
+    if refused && not (length note == 0)
     then codes "        " ++ (note ++ codes "\n") else []
 
 -- the prompt: that the line is a source's, or the counter, and the machine's state
@@ -122,19 +128,20 @@ prompt_in Prompting prompt = prompt
 prompt_in manner prompt = []
 
 -- for a line of which this is the front, and for a reply of the desk itself
-abbrev pub written : Manner → List ℕ → Bool → List ℕ → List ℕ → List ℕ
-written Json front longer note reply = json_answer front longer note reply
-written manner front longer note reply =
-    echo_in manner (echo_of front longer reply) ++ (reply ++ note_line note reply)
+abbrev pub written : Manner → List ℕ → Bool → List ℕ → Answered → List ℕ → List ℕ
+written Json front longer note answer reply = json_answer front longer note answer reply
+written manner front longer note answer reply =
+    echo_in manner (echo_of answer.is_refused front longer)
+    ++ (reply ++ note_line answer.is_refused note)
 
-abbrev pub written_own : Manner → List ℕ → List ℕ → List ℕ
-written_own Json note reply = json_own note reply
-written_own manner note reply = reply ++ note_line note reply
+abbrev pub written_own : Manner → List ℕ → Bool → List ℕ → List ℕ
+written_own Json note refused reply = json_own note refused reply
+written_own manner note refused reply = reply ++ note_line refused note
 
 -- what is written at the end, with a line feed in the place of a prompt
-unfoldable pub written_last : Manner → List ℕ → List ℕ
-written_last Json reply = if length reply == 0 then [] else json_own [] reply
-written_last manner reply = reply ++ prompt_in manner (codes "\n")
+unfoldable pub written_last : Manner → Bool → List ℕ → List ℕ
+written_last Json refused reply = if length reply == 0 then [] else json_own [] refused reply
+written_last manner refused reply = reply ++ prompt_in manner (codes "\n")
 
 -- where lines come from that a line names which comes from there itself
 unfoldable pub within : List ℕ → List ℕ → List ℕ
@@ -151,20 +158,23 @@ form_in manner = Lines
 abbrev pub answered : List ℕ → Seat → List ℕ → Said
 answered note seat line =
     let reply = reply_in seat.recorded (form_in seat.manner) line in
-    saying (written seat.manner (kept_of line).front (kept_of line).longer note reply)
-    (Line line ∷ []) (record seat { recorded = monitor_language.after seat.recorded line })
+    let answer = answered_in seat.recorded (form_in seat.manner) line in
+    saying (written seat.manner (kept_of line).front (kept_of line).longer note answer reply)
+    answer.is_refused (Line line ∷ [])
+    (record seat { recorded = monitor_language.after seat.recorded line })
 
 abbrev pub all_answered : List ℕ → Seat → List (List ℕ) → Said
 all_answered note seat [] = nothing seat
 all_answered note seat (line ∷ more) =
     and_then (answered note seat line) (λ next. all_answered note next more)
 
--- a reply of the desk itself
-abbrev pub own : List ℕ → Seat → List ℕ → Said
-own note seat reply = saying (written_own seat.manner note reply) [] seat
+-- a reply of the desk itself, which is a refusal or not
+abbrev pub own : List ℕ → Seat → Bool → List ℕ → Said
+own note seat refused reply =
+    saying (written_own seat.manner note refused reply) refused [] seat
 
 abbrev pub refused : List ℕ → Seat → List ℕ → FileTrouble → Said
-refused note seat name trouble = own note seat (trouble_text name trouble)
+refused note seat name trouble = own note seat true (trouble_text name trouble)
 
 -- the words of a dump are put on the drum, by a line that has this word
 abbrev pub restore_word : DrumForm → List ℕ
@@ -174,8 +184,10 @@ restore_word drums.Simh = codes "restore-simh "
 unfoldable pub restored : DrumForm → List ℕ → Seat → List ℕ → List ℕ → Said
 restored form note seat name dump =
     let answer = answer_to_dump seat.recorded dump in
-    saying (written seat.manner (restore_word form ++ name) false (within name note) answer.reply)
-    (Dump dump ∷ []) (record seat { recorded = answer.after })
+    let is_refused = refuses_dump seat.recorded dump in
+    saying (written seat.manner (restore_word form ++ name) false (within name note)
+    (plainly is_refused) answer.reply)
+    is_refused (Dump dump ∷ []) (record seat { recorded = answer.after })
 
 -- how many bytes of a tape's text a line has room for, after `mount` and its space
 abbrev pub mount_limit : ℕ
@@ -185,8 +197,10 @@ mount_limit = 4090
 unfoldable pub long_tape : List ℕ → Seat → List ℕ → List ℕ → Said
 long_tape note seat name text =
     let answer = answer_to_tape seat.recorded name text in
-    saying (written seat.manner (codes "tape " ++ name) false (within name note) answer.reply)
-    (Tape name text ∷ []) (record seat { recorded = answer.after })
+    let is_refused = refuses_tape seat.recorded text in
+    saying (written seat.manner (codes "tape " ++ name) false (within name note)
+    (plainly is_refused) answer.reply)
+    is_refused (Tape name text ∷ []) (record seat { recorded = answer.after })
 
 unfoldable pub mounted : List ℕ → Seat → List ℕ → List ℕ → Said
 mounted note seat name text =
@@ -239,7 +253,7 @@ used_or_refused work note seat name (Err trouble) = refused note seat name troub
 
 -- something was kept under a name, or could not be
 abbrev pub kept_or_refused : List ℕ → Seat → List ℕ → Bool → Said
-kept_or_refused note seat name true = own note seat (kept_text name)
+kept_or_refused note seat name true = own note seat false (kept_text name)
 kept_or_refused note seat name false = refused note seat name troubles.NotWritten
 
 -- ---- a line
@@ -266,7 +280,7 @@ asked work note seat name = wanting work note seat name
 -- a line leaves the desk, and all files
 abbrev pub left_by : Seat → List ℕ → Said
 left_by seat line = record {
-  text = echo_in seat.manner (echo_of (kept_of line).front (kept_of line).longer []);
+  text = echo_in seat.manner (echo_of false (kept_of line).front (kept_of line).longer);
   handed = [];
   seat = record seat { inner = None; outer = []; has_left = true };
 }
@@ -368,8 +382,13 @@ said_to seat (Kept kept) = kept_said seat seat.wanted kept
 -- what it says where no line is typed any more; then nothing more is to be told it
 unfoldable pub closing_text : Seat → List ℕ
 closing_text seat =
-    if takes_lines seat then written_last seat.manner (monitor_language.closing seat.recorded)
+    if takes_lines seat then written_last seat.manner (is_faulty seat.recorded.state.opened)
+    (monitor_language.closing seat.recorded)
     else []
+
+-- whether that is a refusal: of a source that was left open
+abbrev pub closing_refuses : Seat → Bool
+closing_refuses seat = takes_lines seat && is_faulty seat.recorded.state.opened
 
 -- what it says to all that it is told, one after another
 abbrev pub all_said : Seat → List Told → Said

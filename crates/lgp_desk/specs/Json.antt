@@ -1,13 +1,10 @@
 -- Part of the public promise: what is written for a reply where programs read: a JSON object on a
 -- line of its own, with the line, the lines of its reply, and whether it is a refusal.
-use Rattle.std.specs.Prelude.{ℕ, ◌==◌, not, ◌&&◌, ◌||◌, nat_eq, Bool, true, false, if◌then◌else◌, List, []}
+use Rattle.std.specs.Prelude.{ℕ, ◌==◌, Bool, true, false, if◌then◌else◌, List, []}
 use Rattle.std.specs.Prelude.{◌∷◌, ◌++◌, codes, length, map}
-use Rattle.std.specs.List.{ends_with, list_any}
-use Rattle.std.specs.Str.{bytes_eq}
 use Rattle.bstr.specs.Text.{lines_of, without_terminator}
 use Rattle.lgp_fields.specs.Escaped.{escaped}
-use Rattle.lgp_stream.specs.Language.{is_question}
-use Rattle.lgp_stream.specs.LineWords.{first_word}
+use Rattle.lgp_monitor.specs.declared.answered.Answered.{Answered}
 
 -- ---- strings
 
@@ -16,20 +13,9 @@ json_string text = codes "\"" ++ (escaped text ++ codes "\"")
 
 -- ---- the lines of a reply
 
--- whether the replies to a command are for programs
-abbrev pub is_for_programs : List ℕ → Bool
-is_for_programs name =
-    list_any (bytes_eq name) (codes "json" ∷ codes "look" ∷ codes "cost" ∷ [])
-    || ends_with nat_eq name (codes "-data")
-
--- then each of its lines is an object already; only a refusal is not
-unfoldable pub has_objects : List ℕ → List ℕ → Bool
-has_objects line reply = not (is_question reply) && is_for_programs (first_word line)
-
--- a line of a reply: as it is, or as a string
+-- a line of a reply: as it is where each is an object already, and else as a string
 unfoldable pub json_line : Bool → List ℕ → List ℕ
-json_line objects line =
-    if objects && not (is_question line) then line else json_string line
+json_line objects line = if objects then line else json_string line
 
 -- the lines, with a comma in front of each but the first
 unfoldable pub json_lines : Bool → Bool → List (List ℕ) → List ℕ
@@ -50,16 +36,18 @@ json_note note =
     if length note == 0 then [] else codes ",\"from\":" ++ json_string note
 
 -- what comes after the line
-unfoldable pub json_reply : Bool → List ℕ → List ℕ → List ℕ
-json_reply objects note reply =
-    codes "\"reply\":[" ++ (json_lines objects true (map without_terminator (lines_of reply))
-    ++ ((if is_question reply then codes "],\"refused\":true" else codes "],\"refused\":false")
+unfoldable pub json_reply : Answered → List ℕ → List ℕ → List ℕ
+json_reply answer note reply =
+    codes "\"reply\":["
+    ++ (json_lines answer.has_objects true (map without_terminator (lines_of reply))
+    ++ ((if answer.is_refused then codes "],\"refused\":true" else codes "],\"refused\":false")
     ++ (json_note note ++ codes "}\n")))
 
 -- for a line, and for a reply of the desk itself
-unfoldable pub json_answer : List ℕ → Bool → List ℕ → List ℕ → List ℕ
-json_answer front longer note reply =
-    codes "{" ++ (json_typed front longer ++ json_reply (has_objects front reply) note reply)
+unfoldable pub json_answer : List ℕ → Bool → List ℕ → Answered → List ℕ → List ℕ
+json_answer front longer note answer reply =
+    codes "{" ++ (json_typed front longer ++ json_reply answer note reply)
 
-unfoldable pub json_own : List ℕ → List ℕ → List ℕ
-json_own note reply = codes "{" ++ json_reply false note reply
+unfoldable pub json_own : List ℕ → Bool → List ℕ → List ℕ
+json_own note refused reply =
+    codes "{" ++ json_reply (record { is_refused = refused; has_objects = false }) note reply

@@ -2,7 +2,9 @@ pub mod Json
 pub mod Requests
 pub mod FileForms
 pub mod Troubles
+pub mod Files
 pub mod Desk
 pub mod OpenFileInside
 pub mod Sessions
+pub mod Drawers
 pub mod ServedInside

@@ -9,14 +9,19 @@ use Rattle.clap.specs.Words.{fault_of}
 use Rattle.lgp_task.specs.CommandLine.{monitor_line}
 use Rattle.lgp_task.specs.Task.{IsFaultOn, SessionTask, session_for}
 use Rattle.lgp_task.specs.declared.task.TaskFault.{TaskFault}
-use Rattle.lgp_stream.specs.Language.{HasCause, StandsOf, is_question}
+use Rattle.lgp_table.specs.State.{State}
+use Rattle.lgp_stream.specs.Language.{HasCause, StandsOf}
 use Rattle.lgp_stream.specs.Transcript.{IsLine}
 use Rattle.lgp_stream.specs.declared.stream.StreamFault.{StreamFault}
-use Rattle.lgp_stream.specs.declared.stream.StreamFault.TheVariants.{Read}
+use Rattle.lgp_stream.specs.declared.stream.StreamFault.TheVariants.{Memory, Read}
 use Rattle.lgp_lab.specs.Tasks.{Failures, IsRefused, answered_status, broken_status}
 use Rattle.lgp_desk.specs.Desk.{First, Found, Kept, Onward, Seat, Told, Typed, Wanted}
-use Rattle.lgp_desk.specs.Desk.{all_said, closing_text, prompt_at, prompt_in, said_to, taken_seat}
+use Rattle.lgp_desk.specs.Desk.{all_said, closing_refuses, closing_text, prompt_at, prompt_in, said_to, taken_seat}
 use Rattle.lgp_desk.specs.Desk.{wish_at}
+use Rattle.lgp_desk.specs.FileForms.{text_made}
+use Rattle.lgp_desk.specs.Files.{FileCall, IsCutOff, IsFound, IsHanded}
+use Rattle.lgp_desk.specs.declared.request.Work.{Work}
+use Rattle.lgp_desk.specs.declared.request.Work.TheVariants as works
 use Rattle.lgp_desk.specs.declared.wish.Wish.{Wish}
 use Rattle.lgp_desk.specs.declared.wish.Wish.TheVariants as wishes
 use Rattle.lgp_desk.specs.declared.writing.Manner.{Manner}
@@ -33,21 +38,27 @@ is_wished wishes.Read (Found read) = true
 is_wished (wishes.Keep made) (Kept kept) = true
 is_wished wish told = false
 
--- what files hold, by their names, where it is known
-abbrev pub Known : Type 0
-Known = List ℕ → Option (List ℕ)
+-- what is asked of files to keep what a line names
+abbrev pub IsKeptFor : Work → List ℕ → State → List FileCall → Bool → Type 0
+IsKeptFor (works.Keep made) name s calls kept = IsHanded name (text_made made s) calls kept
+IsKeptFor work name s calls kept = ⊥
 
--- what was found in a file is what that file holds, where this is known
-abbrev pub IsHeldBy : Known → Told → Option Wanted → Type 0
-IsHeldBy known (Found (Ok text)) (Some wanted) = IfSome (known wanted.name) (λ held. text ≡ held)
-IsHeldBy known told wanted = Unit {0}
+-- what is asked of files for what is told: a file is read whole, or what is made of the machine is
+-- handed over to be kept; for all else nothing is asked
+abbrev pub AreFor : Seat → Told → List FileCall → Type 0
+AreFor seat (Found read) calls = IfSome seat.wanted (λ wanted. IsFound wanted.name calls read)
+AreFor seat (Kept kept) calls =
+    IfSome seat.wanted (λ wanted.
+    IsKeptFor wanted.work wanted.name seat.recorded.state.debugger.state calls kept)
+AreFor seat told calls = calls ≡ []
 
--- it is told one thing after another: each is what it wishes for
-abbrev pub AreWished : Known → Seat → List Told → Type 0
-AreWished known seat [] = Unit {0}
-AreWished known seat (told ∷ more) =
-    (is_wished (wish_at seat) told ≡ true) × IsHeldBy known told seat.wanted
-    × AreWished known (said_to seat told).seat more
+-- it is told one thing after another: each is what it wishes for, and for each these calls are made
+abbrev pub AreWished : Seat → List Told → List FileCall → Type 0
+AreWished seat [] calls = calls ≡ []
+AreWished seat (told ∷ more) calls =
+    (is_wished (wish_at seat) told ≡ true) × (first : List FileCall) × (rest : List FileCall)
+    × (calls ≡ first ++ rest) × AreFor seat told first
+    × AreWished (said_to seat told).seat more rest
 
 -- the lines that were typed
 abbrev pub lines_in : List Told → List (List ℕ)
@@ -79,10 +90,11 @@ written_for seat (told ∷ more) =
     prompt_before seat told
     ++ ((said_to seat told).text ++ written_for (said_to seat told).seat more)
 
--- a desk was told all this, which left it so, and exactly what is to be written for it was written
-pub record IsTold (known : Known) (before after : Seat) (w₀ w : Option (List ℕ))
+-- a desk was told all this, with these calls of files, which left it so, and exactly what is to be
+-- written for it was written
+pub record IsTold (calls : List FileCall) (before after : Seat) (w₀ w : Option (List ℕ))
     (told : List Told) : Type 0 where
-  pub wished : AreWished known before told
+  pub wished : AreWished before told calls
   pub seat : after ≡ (all_said before told).seat
   pub written : Appends w₀ w (written_for before told)
 
@@ -93,7 +105,7 @@ ending false seat = []
 
 -- whether a reply was a refusal then
 abbrev pub refused_at : Bool → Seat → Bool
-refused_at true seat = seat.has_refused || is_question (closing_text seat)
+refused_at true seat = seat.has_refused || closing_refuses seat
 refused_at false seat = seat.has_refused
 
 -- ---- a session that is broken off
@@ -136,17 +148,35 @@ pub record IsUnread (seat : Seat) (input left : Option (List ℕ)) (told : List 
   pub prompted : front ≡ prompt_of seat
   pub typed : IfSome input (λ text. IsTypedUpTo text left told)
 
+-- what was asked of files for what a desk wishes for, before memory was refused: nothing, all that is
+-- to be asked for something that it is told then, or a file was read in part
+abbrev pub IsBegun : Seat → List FileCall → Type 0
+IsBegun seat calls =
+    (calls ≡ [])
+    ⊎ (((told : Told) × (is_wished (wish_at seat) told ≡ true) × AreFor seat told calls)
+    ⊎ ((wanted : Wanted) × (seat.wanted ≡ Some wanted) × (wish_at seat ≡ wishes.Read)
+    × IsCutOff wanted.name calls))
+
+abbrev pub IsBegunAt : StreamFault → Seat → List FileCall → Type 0
+IsBegunAt Memory seat calls = IsBegun seat calls
+IsBegunAt fault seat calls = calls ≡ []
+
 -- a desk was told so much, and exactly what is to be written for it was written. A fault broke the
 -- session off in a text that comes next: nothing of it was written, or as many bytes as the fault
--- counts. The names came first, and then the first of the lines.
-pub record IsBrokenOff (known : Known) (before : Seat) (names : List (List ℕ))
+-- counts. The names came first, and then the first of the lines. These calls of files were made: all
+-- for what it was told, and for what comes next, and then those that were begun.
+pub record IsBrokenOff (calls : List FileCall) (before : Seat) (names : List (List ℕ))
     (input left : Option (List ℕ)) (fault : StreamFault) (w₀ w : Option (List ℕ)) : Type 0 where
   pub told : List Told
   pub next : Option Told
   pub front : List ℕ
   pub text : List ℕ
   pub between : Option (List ℕ)
-  pub wished : AreWished known before (with_next told next)
+  pub asked : List FileCall
+  pub begun : List FileCall
+  pub calls_are : calls ≡ asked ++ begun
+  pub wished : AreWished before (with_next told next) asked
+  pub is_begun : IsBegunAt fault (all_said before (with_next told next)).seat begun
   pub is_next : IsNext (all_said before told).seat next front text
   pub written : Appends w₀ between (written_for before told ++ front)
   pub stands : StandsOf text fault between w
@@ -168,14 +198,14 @@ last_wish true = wishes.Line
 last_wish false = wishes.Nothing
 
 -- a session: the desk was told the names, then what is typed, and between them whatever files hold,
--- until the lines had an end or `quit` was typed
-pub record IsSession (known : Known) (before : Seat) (names : List (List ℕ))
+-- until the lines had an end or `quit` was typed; and these calls of files were made
+pub record IsSession (calls : List FileCall) (before : Seat) (names : List (List ℕ))
     (input : Option (List ℕ)) (refused : Bool) (w₀ w : Option (List ℕ)) : Type 0 where
   pub told : List Told
   pub seat : Seat
   pub between : Option (List ℕ)
   pub closed : Bool
-  pub is_told : IsTold known before seat w₀ between told
+  pub is_told : IsTold calls before seat w₀ between told
   pub ended : wish_at seat ≡ last_wish closed
   pub written : Appends between w (ending closed seat)
   pub refused_is : refused ≡ refused_at closed seat
@@ -190,17 +220,17 @@ abbrev pub session_status : Result Bool StreamFault → ℕ
 session_status (Ok refused) = answered_status (if refused then 1 else 0)
 session_status (Err fault) = broken_status fault
 
-module _ (known : Known) (manner : Manner) (names : List (List ℕ))
+module _ (calls : List FileCall) (manner : Manner) (names : List (List ℕ))
     (input left : Option (List ℕ)) where
   -- what became of it; or a fault broke it off, and then a read or a write has failed, as the fault
   -- says, or memory was refused
   abbrev pub HasAnswered : Failures → Result Bool StreamFault → Option (List ℕ) → Option (List ℕ)
       → Type 0
   HasAnswered failures (Ok refused) w₀ w =
-      IsSession known (taken_seat manner) names input refused w₀ w
+      IsSession calls (taken_seat manner) names input refused w₀ w
   HasAnswered failures (Err fault) w₀ w =
       HasCause fault failures.read failures.write
-      × IsBrokenOff known (taken_seat manner) names input left fault w₀ w
+      × IsBrokenOff calls (taken_seat manner) names input left fault w₀ w
 
   -- a session, with the status for it
   abbrev pub IsHeld : Failures → ℕ → Option (List ℕ) → Option (List ℕ) → Type 0
@@ -215,13 +245,13 @@ session_manner manner task =
 
 -- the words of the command line ask for a session, which is held without a message; or they are
 -- refused
-abbrev pub IsAsked : Type 0 → Known → Manner → List (List ℕ) → Option (List ℕ) → Option (List ℕ)
-    → Failures → Bool → ℕ → Option (List ℕ) → Option (List ℕ) → Option (List ℕ) → Option (List ℕ)
-    → Type 0
-IsAsked A known manner words input left failures m_failed status w₀ w m₀ m =
+abbrev pub IsAsked : Type 0 → List FileCall → Manner → List (List ℕ) → Option (List ℕ)
+    → Option (List ℕ) → Failures → Bool → ℕ → Option (List ℕ) → Option (List ℕ)
+    → Option (List ℕ) → Option (List ℕ) → Type 0
+IsAsked A calls manner words input left failures m_failed status w₀ w m₀ m =
     ((fault_of monitor_line words ≡ [])
-    × IsHeld known (session_manner manner (session_for words)) (session_for words).files input
+    × IsHeld calls (session_manner manner (session_for words)) (session_for words).files input
     left failures status w₀ w
     × (m ≡ m₀))
-    ⊎ ((fault : TaskFault A) × IsFaultOn monitor_line words fault
+    ⊎ ((fault : TaskFault A) × IsFaultOn monitor_line words fault × (calls ≡ [])
     × IsRefused fault failures.write m_failed status w₀ w m₀ m)

@@ -5,12 +5,14 @@ ghost use Rattle.std.specs.Io.KnownBytes.{Appends};
 ghost use Rattle.lgp_stream.specs.Language.{HasCause, StandsOf};
 ghost use Rattle.lgp_stream.specs.LineReading.{left_of};
 ghost use Rattle.lgp_desk.specs.Desk.{wish_at};
-ghost use Rattle.lgp_desk.specs.Sessions.{HasAnswered, IsBrokenOff, IsSession, Known};
+ghost use Rattle.lgp_desk.specs.Files.{ByCalls};
+ghost use Rattle.lgp_desk.specs.Sessions.{HasAnswered, IsBegun, IsBrokenOff, IsSession};
 ghost use Rattle.lgp_desk.specs.ServedInside.{HasFirsts, IsGranted, IsServed, IsTypedOrClosed, needs_no_file};
 ghost use Rattle.lgp_desk.specs.declared.wish.Wish.TheVariants as wishes;
 
 use crate::desk::Desk;
 use crate::files::{Files, keep_file, read_file};
+use crate::request::Made;
 use crate::wish::Wish;
 use crate::writing::Manner;
 use lgp_lab::FileName;
@@ -18,27 +20,55 @@ use lgp_monitor::Progress;
 use lgp_stream::{Feed, LineReader, Sink, StreamFault, write_whole};
 use std::alloc::{AllocError, Allocator};
 
+/// Reads the file that a desk wishes for, and tells it what is found there: the text that is to be written.
+fn grant_read<A: Allocator + Copy, P: Progress, F: Files>(
+    alloc: A,
+    desk: &mut Desk<A, P>,
+    files: &mut F,
+) -> Result<Vec<u8, A>, AllocError>
+    ensures granted { wish_at desk.old ≡ wishes.Read → IfOk result (λ text.
+        ByCalls F.answer files.old files.new (λ calls.
+        IsGranted calls desk.old desk.new (Some text.items))) }
+    ensures begun { wish_at desk.old ≡ wishes.Read → IfErr result (λ _.
+        ByCalls F.answer files.old files.new (λ calls. IsBegun desk.old calls)) }
+{
+    let read = read_file(alloc, files, desk.file_name().unwrap_or(b""))?;
+    desk.found(read)
+}
+
+/// Hands over what a desk wishes to keep, and tells it whether that is kept: the text that is to be written.
+fn grant_keep<A: Allocator + Copy, P: Progress, F: Files>(
+    desk: &mut Desk<A, P>,
+    files: &mut F,
+    made: Made,
+) -> Result<Vec<u8, A>, AllocError>
+    ensures granted { wish_at desk.old ≡ wishes.Keep made → IfOk result (λ text.
+        ByCalls F.answer files.old files.new (λ calls.
+        IsGranted calls desk.old desk.new (Some text.items))) }
+    ensures begun { wish_at desk.old ≡ wishes.Keep made → IfErr result (λ _.
+        ByCalls F.answer files.old files.new (λ calls. IsBegun desk.old calls)) }
+{
+    let text = desk.text_made(made)?;
+    let kept = keep_file(files, desk.file_name().unwrap_or(b""), &text);
+    desk.kept(kept)
+}
+
 /// Does what a desk wishes for: the text that is to be written; none where it wishes for a line or for nothing more.
 fn grant<A: Allocator + Copy, P: Progress, F: Files>(
     alloc: A,
     desk: &mut Desk<A, P>,
-    files: &F,
+    files: &mut F,
 ) -> Result<Option<Vec<u8, A>>, AllocError>
-    ensures { IfOk result (λ said. IsGranted (F.known files.now) desk.old desk.new
-        (option_map (λ text. text.items) said)) }
+    ensures granted { IfOk result (λ said. ByCalls F.answer files.old files.new (λ calls.
+        IsGranted calls desk.old desk.new (option_map (λ text. text.items) said))) }
+    ensures begun { IfErr result (λ _. ByCalls F.answer files.old files.new (λ calls.
+        IsBegun desk.old calls)) }
 {
     match desk.wish() {
         Wish::Line | Wish::Nothing => Ok(None),
         Wish::Onward => Ok(Some(desk.onward()?)),
-        Wish::Read => {
-            let read = read_file(alloc, files, desk.file_name().unwrap_or(b""))?;
-            Ok(Some(desk.found(read)?))
-        }
-        Wish::Keep(made) => {
-            let text = desk.text_made(made)?;
-            let kept = keep_file(files, desk.file_name().unwrap_or(b""), &text);
-            Ok(Some(desk.kept(kept)?))
-        }
+        Wish::Read => Ok(Some(grant_read(alloc, desk, files)?)),
+        Wish::Keep(made) => Ok(Some(grant_keep(desk, files, made)?)),
     }
 }
 
@@ -66,13 +96,14 @@ fn deliver<A: Allocator, W: Sink>(
 fn serve<A: Allocator + Copy, P: Progress, F: Files, W: Sink>(
     alloc: A,
     desk: &mut Desk<A, P>,
-    files: &F,
+    files: &mut F,
     writer: &mut W,
 ) -> Result<(), StreamFault>
-    ensures served { OnOk result (IsServed (F.known files.now) desk.old desk.new
-        (W.contents writer.old) (W.contents writer.new)) }
-    ensures broken { IfErr result (λ fault. IsBrokenOff (F.known files.now) desk.old []
-        (Some []) None fault (W.contents writer.old) (W.contents writer.new)) }
+    ensures served { OnOk result (ByCalls F.answer files.old files.new (λ calls.
+        IsServed calls desk.old desk.new (W.contents writer.old) (W.contents writer.new))) }
+    ensures broken { IfErr result (λ fault. ByCalls F.answer files.old files.new (λ calls.
+        IsBrokenOff calls desk.old [] (Some []) None fault
+        (W.contents writer.old) (W.contents writer.new))) }
     ensures cause { IfErr result (λ fault. HasCause fault false (W.failed writer.new)) }
 {
     for step in 0..u64::MAX {
@@ -95,13 +126,13 @@ fn tell_typed<A: Allocator + Copy, P: Progress, R: Feed, W: Sink>(
     reader: &mut R,
     writer: &mut W,
 ) -> Result<bool, StreamFault>
-    ensures typed { (known : Known) → wish_at desk.old ≡ wishes.Line
-        → IfOk result (λ is_typed. IsTypedOrClosed known is_typed desk.old desk.new
+    ensures typed { wish_at desk.old ≡ wishes.Line
+        → IfOk result (λ is_typed. IsTypedOrClosed is_typed desk.old desk.new
         (left_of lines.old.unread (R.remaining reader.old))
         (left_of lines.new.unread (R.remaining reader.new))
         (W.contents writer.old) (W.contents writer.new)) }
-    ensures broken { (known : Known) → wish_at desk.old ≡ wishes.Line
-        → IfErr result (λ fault. IsBrokenOff known desk.old []
+    ensures broken { wish_at desk.old ≡ wishes.Line
+        → IfErr result (λ fault. IsBrokenOff [] desk.old []
         (left_of lines.old.unread (R.remaining reader.old)) (R.remaining reader.new) fault
         (W.contents writer.old) (W.contents writer.new)) }
     ensures cause { IfErr result (λ fault.
@@ -131,14 +162,16 @@ fn tell_firsts<A: Allocator + Copy, B: Allocator, P: Progress, F: Files, W: Sink
     alloc: A,
     desk: &mut Desk<A, P>,
     names: &[FileName<B>],
-    files: &F,
+    files: &mut F,
     writer: &mut W,
 ) -> Result<(), StreamFault>
     requires { needs_no_file (wish_at desk.old) ≡ true }
-    ensures told { OnOk result (HasFirsts (F.known files.now) desk.old desk.new names.now
-        (W.contents writer.old) (W.contents writer.new)) }
-    ensures broken { IfErr result (λ fault. IsBrokenOff (F.known files.now) desk.old names.now
-        (Some []) None fault (W.contents writer.old) (W.contents writer.new)) }
+    ensures told { OnOk result (ByCalls F.answer files.old files.new (λ calls.
+        HasFirsts calls desk.old desk.new names.now
+        (W.contents writer.old) (W.contents writer.new))) }
+    ensures broken { IfErr result (λ fault. ByCalls F.answer files.old files.new (λ calls.
+        IsBrokenOff calls desk.old names.now (Some []) None fault
+        (W.contents writer.old) (W.contents writer.new))) }
     ensures cause { IfErr result (λ fault. HasCause fault false (W.failed writer.new)) }
 {
     for name in names {
@@ -156,16 +189,17 @@ fn hold<A: Allocator + Copy, B: Allocator, P: Progress, F: Files, R: Feed, W: Si
     alloc: A,
     desk: &mut Desk<A, P>,
     names: &[FileName<B>],
-    files: &F,
+    files: &mut F,
     reader: &mut R,
     writer: &mut W,
 ) -> Result<bool, StreamFault>
     requires { needs_no_file (wish_at desk.old) ≡ true }
-    ensures held { IfOk result (λ refused. IsSession (F.known files.now) desk.old names.now
-        (R.remaining reader.old) refused (W.contents writer.old) (W.contents writer.new)) }
-    ensures broken { IfErr result (λ fault. IsBrokenOff (F.known files.now) desk.old names.now
-        (R.remaining reader.old) (R.remaining reader.new) fault
-        (W.contents writer.old) (W.contents writer.new)) }
+    ensures held { IfOk result (λ refused. ByCalls F.answer files.old files.new (λ calls.
+        IsSession calls desk.old names.now (R.remaining reader.old) refused
+        (W.contents writer.old) (W.contents writer.new))) }
+    ensures broken { IfErr result (λ fault. ByCalls F.answer files.old files.new (λ calls.
+        IsBrokenOff calls desk.old names.now (R.remaining reader.old) (R.remaining reader.new)
+        fault (W.contents writer.old) (W.contents writer.new))) }
     ensures cause { IfErr result (λ fault.
         HasCause fault (R.failed reader.new) (W.failed writer.new)) }
 {
@@ -189,15 +223,15 @@ pub fn attend<A: Allocator + Copy, B: Allocator, P: Progress, F: Files, R: Feed,
     alloc: A,
     manner: Manner,
     names: &[FileName<B>],
-    files: &F,
+    files: &mut F,
     progress: P,
     reader: &mut R,
     writer: &mut W,
 ) -> Result<bool, StreamFault>
-    ensures { HasAnswered (F.known files.now) manner names.now
+    ensures { ByCalls F.answer files.old files.new (λ calls. HasAnswered calls manner names.now
         (R.remaining reader.old) (R.remaining reader.new)
         (record { read = R.failed reader.new; write = W.failed writer.new }) result
-        (W.contents writer.old) (W.contents writer.new) }
+        (W.contents writer.old) (W.contents writer.new)) }
 {
     let Ok(mut desk) = Desk::new(alloc, manner, progress) else {
         return Err(StreamFault::Memory);

@@ -1,12 +1,12 @@
 //! The monitor at a desk, where lines are typed until `quit`. It reads nothing and writes nothing: it says what it wishes for, and is told
 //! what came of that.
 
-ghost use Rattle.std.specs.Prelude.{◌≡◌, ◌++◌, ◌||◌, IfOk, IfSome, List, None, OnOk, ℕ, is_none, option_map};
+ghost use Rattle.std.specs.Prelude.{◌≡◌, ◌++◌, ◌||◌, IfOk, IfSome, List, None, OnOk, ℕ, false, is_none, option_map, true};
 ghost use Rattle.std.specs.Result.{result_map_both};
 ghost use Rattle.lgp_stream.specs.KeptLine.{kept_of};
-ghost use Rattle.lgp_monitor.specs.Monitor.{monitor_language};
-ghost use Rattle.lgp_stream.specs.Language.{is_question};
-ghost use Rattle.lgp_desk.specs.Desk.{First, Found, Kept, Onward, Typed, answered, asked, closing_text, command_said, is_keep, left_by, line_said, marked, note_at, own, prompt_at, prompt_in, refused, said_to, taken_seat, takes_lines, wanting, wish_at, without_file, written_last};
+ghost use Rattle.lgp_monitor.specs.Closing.{is_faulty};
+ghost use Rattle.lgp_monitor.specs.Monitor.{answered_in, monitor_language};
+ghost use Rattle.lgp_desk.specs.Desk.{First, Found, Kept, Onward, Typed, answered, asked, closing_refuses, closing_text, command_said, is_keep, left_by, line_said, marked, note_at, own, prompt_at, prompt_in, refused, said_to, taken_seat, takes_lines, wanting, wish_at, without_file, written_last};
 ghost use Rattle.lgp_desk.specs.FileForms.{text_made};
 ghost use Rattle.lgp_desk.specs.OpenFileInside.{HasNextOf};
 
@@ -17,9 +17,10 @@ use crate::request::{Made, Work, is_quit, request_in};
 use crate::trouble::push_trouble;
 use crate::wish::Wish;
 use crate::writing::{Manner, REPLY_ROOM, form_in, push_last, push_own, push_shown, written};
+use lgp_fields::RecordForm;
 use lgp_monitor::{Monitor, Progress};
 use lgp_script::Laboratory;
-use lgp_stream::{Answers, LineBytes, is_question};
+use lgp_stream::LineBytes;
 use lgp_text::{Piece, push_pieces, status_text};
 use std::alloc::{AllocError, Allocator};
 use std::marker::Model;
@@ -184,10 +185,10 @@ impl<A: Allocator + Copy, P: Progress> Desk<A, P> {
     }
 
     /// Notes whether what is written is a refusal.
-    fn mark(&mut self, text: &[u8])
-        ensures { self.new ≡ marked self.old text.now }
+    fn mark(&mut self, refused: bool)
+        ensures { self.new ≡ marked self.old refused }
     {
-        self.has_refused = self.has_refused || is_question(text);
+        self.has_refused = self.has_refused || refused;
     }
 
     /// Where the line comes from that is answered.
@@ -210,22 +211,28 @@ impl<A: Allocator + Copy, P: Progress> Desk<A, P> {
             → OnOk result (self.new ≡ (answered note.now self.old text).seat) }
     {
         let mut reply = Vec::with_capacity(self.alloc, REPLY_ROOM)?;
-        self.monitor
+        let answer = self
+            .monitor
             .answer_in(form_in(self.manner), line, &mut reply)?;
+        self.mark(answer.is_refused);
         let (front, longer) = (line.front(), line.is_longer());
-        let text = written(self.alloc, self.manner, front, longer, note, reply)?;
-        self.mark(&text);
-        Ok(text)
+        written(self.alloc, self.manner, front, longer, note, answer, reply)
     }
 
-    /// The text for a reply of the desk itself.
-    fn say_own(&mut self, note: &[u8], reply: &[u8]) -> Result<Vec<u8, A>, AllocError>
-        ensures text { IfOk result (λ made. made.items ≡ (own note.now self.old reply.now).text) }
-        ensures after { OnOk result (self.new ≡ (own note.now self.old reply.now).seat) }
+    /// The text for a reply of the desk itself, which is a refusal or not.
+    fn say_own(
+        &mut self,
+        note: &[u8],
+        refused: bool,
+        reply: &[u8],
+    ) -> Result<Vec<u8, A>, AllocError>
+        ensures text { IfOk result (λ made.
+            made.items ≡ (own note.now self.old refused reply.now).text) }
+        ensures after { OnOk result (self.new ≡ (own note.now self.old refused reply.now).seat) }
     {
         let mut text = Vec::new(self.alloc);
-        push_own(&mut text, self.manner, note, reply)?;
-        self.mark(&text);
+        push_own(&mut text, self.manner, note, refused, reply)?;
+        self.mark(refused);
         Ok(text)
     }
 
@@ -242,7 +249,7 @@ impl<A: Allocator + Copy, P: Progress> Desk<A, P> {
     {
         let mut reply = Vec::new(self.alloc);
         push_trouble(&mut reply, name, trouble)?;
-        self.say_own(note, &reply)
+        self.say_own(note, true, &reply)
     }
 
     /// Leaves the desk by a line: the text for it.
@@ -256,7 +263,13 @@ impl<A: Allocator + Copy, P: Progress> Desk<A, P> {
         self.outer.clear();
         self.has_left = true;
         let mut text = Vec::new(self.alloc);
-        push_shown(&mut text, self.manner, line.front(), line.is_longer(), b"")?;
+        push_shown(
+            &mut text,
+            self.manner,
+            false,
+            line.front(),
+            line.is_longer(),
+        )?;
         Ok(text)
     }
 
@@ -322,13 +335,13 @@ impl<A: Allocator + Copy, P: Progress> Desk<A, P> {
 }
 
 impl<A: Allocator + Copy, P: Progress> Desk<A, P> {
-    /// Asks the monitor alone, whatever the desk wishes for: the bytes of the reply to a line are put after `reply`. A refused growth leaves
-    /// open in which state the desk is.
+    /// Asks the monitor alone, whatever the desk wishes for: the bytes of the reply to a line are put after `reply`. Returns whether the
+    /// line is refused. A refused growth leaves open in which state the desk is.
     pub fn ask_monitor(
         &mut self,
         line: &LineBytes,
         reply: &mut Vec<u8, A>,
-    ) -> Result<(), AllocError>
+    ) -> Result<bool, AllocError>
         ensures reply { (text : List ℕ) → line.now ≡ kept_of text
             → OnOk result (reply.new.items
             ≡ reply.old.items ++ monitor_language.reply self.old.recorded text) }
@@ -336,16 +349,30 @@ impl<A: Allocator + Copy, P: Progress> Desk<A, P> {
             → OnOk result (self.new ≡ record self.old {
               recorded = monitor_language.after self.old.recorded text;
             }) }
+        ensures refused { (text : List ℕ) → line.now ≡ kept_of text
+            → IfOk result (λ refused. refused
+            ≡ (answered_in self.old.recorded RecordForm.Lines text).is_refused) }
     {
-        self.monitor.answer(line, reply)
+        let answer = self.monitor.answer_in(RecordForm::Lines, line, reply)?;
+        Ok(answer.is_refused)
     }
 
-    /// Asks the monitor alone for the reply to the end of its lines. Nothing more is to be told the desk then.
-    pub fn close_monitor(&mut self, reply: &mut Vec<u8, A>) -> Result<(), AllocError>
-        ensures { OnOk result (reply.new.items
+    /// Asks the monitor alone for the reply to the end of its lines. Returns whether a source that was open is refused. Nothing more is to be
+    /// told the desk then.
+    pub fn close_monitor(&mut self, reply: &mut Vec<u8, A>) -> Result<bool, AllocError>
+        ensures reply { OnOk result (reply.new.items
             ≡ reply.old.items ++ monitor_language.closing self.old.recorded) }
+        ensures refused { IfOk result (λ refused. refused
+            ≡ is_faulty self.old.recorded.state.opened) }
     {
-        self.monitor.close(reply)
+        self.monitor.end(reply)
+    }
+
+    /// Forgets that a reply was a refusal.
+    pub fn forget_refusals(&mut self)
+        ensures { self.new ≡ record self.old { has_refused = false } }
+    {
+        self.has_refused = false;
     }
 
     /// Sets how replies are written from now on.
@@ -372,13 +399,16 @@ impl<A: Allocator + Copy, P: Progress> Desk<A, P> {
     /// The text for the end.
     fn end_text(&mut self) -> Result<Vec<u8, A>, AllocError>
         ensures text { IfOk result (λ text. text.items
-            ≡ written_last self.old.manner (monitor_language.closing self.old.recorded)) }
-        ensures refused { self.new.has_refused ≡ self.old.has_refused }
+            ≡ written_last self.old.manner (is_faulty self.old.recorded.state.opened)
+            (monitor_language.closing self.old.recorded)) }
+        ensures refused { OnOk result (self.new.has_refused
+            ≡ (self.old.has_refused || is_faulty self.old.recorded.state.opened)) }
     {
         let mut reply = Vec::new(self.alloc);
-        self.monitor.close(&mut reply)?;
+        let refused = self.monitor.end(&mut reply)?;
+        self.mark(refused);
         let mut text = Vec::new(self.alloc);
-        push_last(&mut text, self.manner, &reply)?;
+        push_last(&mut text, self.manner, refused, &reply)?;
         Ok(text)
     }
 
@@ -387,14 +417,12 @@ impl<A: Allocator + Copy, P: Progress> Desk<A, P> {
     pub fn close(&mut self) -> Result<Vec<u8, A>, AllocError>
         ensures text { IfOk result (λ made. made.items ≡ closing_text self.old) }
         ensures refused { OnOk result (self.new.has_refused
-            ≡ (self.old.has_refused || is_question (closing_text self.old))) }
+            ≡ (self.old.has_refused || closing_refuses self.old)) }
     {
-        let mut text = Vec::new(self.alloc);
         if self.takes_lines() {
-            text = self.end_text()?;
+            return self.end_text();
         }
-        self.has_refused = self.has_refused || is_question(&text);
-        Ok(text)
+        Ok(Vec::new(self.alloc))
     }
 
     /// Is told the name of a file whose lines come before those that are typed.

@@ -1,8 +1,11 @@
 //! Where files are kept: read whole, and written whole.
 
-ghost use Rattle.std.specs.Prelude.{◌≡◌, IfOk, IfSome, List, Option, Some, ℕ};
+ghost use Rattle.std.specs.Prelude.{IfErr, IfOk, List, ℕ};
+ghost use Rattle.std.specs.Io.{ReadsAtMost};
+ghost use Rattle.std.specs.Result.{result_map_both};
+ghost use Rattle.lgp_desk.specs.Files.{AreReads, ByCalls, Closed, FileCall, Handed, IsCutOff, IsFound, IsGiven, IsHanded, Opened, given};
 
-use lgp_stream::Feed;
+use lgp_stream::Failed;
 use std::alloc::{AllocError, Allocator};
 
 /// Why a file is refused.
@@ -34,21 +37,27 @@ pub enum FileTrouble {
     NotWritten,
 }
 
-/// Files by their names.
+/// Files by their names, of which one at a time is open.
 pub trait Files {
-    /// What the file of a name holds, where that is known: it holds it whatever is kept in files.
-    ghost known: { Self → List ℕ → Option (List ℕ) };
+    /// What files in one state answer to a call, and in which state they are then.
+    ghost answer: { Self → FileCall → Self → Type 0 };
 
-    /// What reads a file.
-    type Reader: Feed + Drop;
+    /// Opens the file of this name, to be read from its first byte on, in the place of one that is open; answers whether that is open now.
+    fn open(&mut self, name: &str) -> bool
+        ensures { answer self.old (Opened name.now result) self.new };
 
-    /// What reads the file of this name from its first byte on; None where it cannot be opened.
-    fn open(&self, name: &str) -> Option<Self::Reader>
-        ensures { IfSome result (λ reader. IfSome (known self.now name.now) (λ held.
-            Self.Reader.remaining reader ≡ Some held)) };
+    /// Reads on in the open file, into the buffer, and answers how many bytes: 0 at its end.
+    fn read(&mut self, buffer: &mut [u8]) -> Result<usize, Failed>
+        ensures bound { ReadsAtMost result buffer.new }
+        ensures given { answer self.old (given result buffer.new) self.new };
+
+    /// Closes the open file.
+    fn close(&mut self)
+        ensures { answer self.old Closed self.new };
 
     /// Keeps a text under a name, in place of what is there. Answers whether it is kept; where it is not, what was there is as it was.
-    fn keep(&self, name: &str, text: &[u8]) -> bool;
+    fn keep(&mut self, name: &str, text: &[u8]) -> bool
+        ensures { answer self.old (Handed name.now text.now result) self.new };
 }
 
 /// The most bytes that a file may have which is read.
@@ -57,74 +66,60 @@ pub const FILE_LIMIT: usize = 16_777_216;
 /// How many bytes are asked for at once.
 const PORTION: usize = 4096;
 
-/// Why a file's bytes are not there.
-enum Unread {
-    Refused(FileTrouble),
-    Memory,
-}
-
-impl From<AllocError> for Unread {
-    fn from(_error: AllocError) -> Unread {
-        Unread::Memory
-    }
-}
-
-/// The bytes that a reader has left.
-fn read_whole<A: Allocator, R: Feed>(alloc: A, reader: &mut R) -> Result<Vec<u8, A>, Unread>
-    ensures { IfOk result (λ text. IfSome (R.remaining reader.old) (λ held. text.items ≡ held)) }
+/// The bytes that the open file has left, or why it is refused.
+fn read_whole<A: Allocator, F: Files>(
+    alloc: A,
+    files: &mut F,
+) -> Result<Result<Vec<u8, A>, FileTrouble>, AllocError>
+    ensures given { IfOk result (λ read. ByCalls F.answer files.old files.new (λ calls.
+        IsGiven calls (result_map_both (λ text. text.items) (λ trouble. trouble) read))) }
+    ensures memory { IfErr result (λ _. ByCalls F.answer files.old files.new (λ calls.
+        (text : List ℕ) × AreReads calls text)) }
 {
     let mut text = Vec::new(alloc);
     let mut portion = [0; PORTION];
     'reads: loop {
-        let Ok(count) = reader.read(&mut portion) else {
-            return Err(Unread::Refused(FileTrouble::NotRead));
+        let Ok(count) = files.read(&mut portion) else {
+            return Ok(Err(FileTrouble::NotRead));
         };
         if count == 0 {
-            return Ok(text);
+            return Ok(Ok(text));
         }
         if text.len().saturating_add(count) > FILE_LIMIT {
-            return Err(Unread::Refused(FileTrouble::TooLong));
+            return Ok(Err(FileTrouble::TooLong));
         }
         text.extend_from_slice(&portion[..count])?;
     }
 }
 
-/// The bytes of the file of a name.
-fn read_named<A: Allocator, F: Files>(
-    alloc: A,
-    files: &F,
-    name: &[u8],
-) -> Result<Vec<u8, A>, Unread>
-    ensures { IfOk result (λ text. IfSome (F.known files.now name.now) (λ held.
-        text.items ≡ held)) }
-{
-    let Ok(name) = str::from_utf8(name) else {
-        return Err(Unread::Refused(FileTrouble::NotNamed));
-    };
-    let Some(mut reader) = files.open(name) else {
-        return Err(Unread::Refused(FileTrouble::NotOpened));
-    };
-    read_whole(alloc, &mut reader)
-}
-
 /// The bytes of the file of a name, or why it is refused.
 pub(crate) fn read_file<A: Allocator, F: Files>(
     alloc: A,
-    files: &F,
+    files: &mut F,
     name: &[u8],
 ) -> Result<Result<Vec<u8, A>, FileTrouble>, AllocError>
-    ensures { IfOk result (λ read. IfOk read (λ text.
-        IfSome (F.known files.now name.now) (λ held. text.items ≡ held))) }
+    ensures found { IfOk result (λ read. ByCalls F.answer files.old files.new (λ calls.
+        IsFound name.now calls
+        (result_map_both (λ text. text.items) (λ trouble. trouble) read))) }
+    ensures memory { IfErr result (λ _. ByCalls F.answer files.old files.new (λ calls.
+        IsCutOff name.now calls)) }
 {
-    match read_named(alloc, files, name) {
-        Ok(text) => Ok(Ok(text)),
-        Err(Unread::Refused(trouble)) => Ok(Err(trouble)),
-        Err(Unread::Memory) => Err(AllocError),
+    let Ok(name) = str::from_utf8(name) else {
+        return Ok(Err(FileTrouble::NotNamed));
+    };
+    if !files.open(name) {
+        return Ok(Err(FileTrouble::NotOpened));
     }
+    let read = read_whole(alloc, files);
+    files.close();
+    read
 }
 
 /// Keeps a text under a name, if that is a text itself; answers whether it is kept.
-pub(crate) fn keep_file<F: Files>(files: &F, name: &[u8], text: &[u8]) -> bool {
+pub(crate) fn keep_file<F: Files>(files: &mut F, name: &[u8], text: &[u8]) -> bool
+    ensures { ByCalls F.answer files.old files.new (λ calls.
+        IsHanded name.now text.now calls result) }
+{
     match str::from_utf8(name) {
         Ok(name) => files.keep(name, text),
         Err(_) => false,

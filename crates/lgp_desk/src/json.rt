@@ -2,12 +2,11 @@
 
 ghost use Rattle.std.specs.Prelude.{◌≡◌, ◌++◌, [], OnOk, codes, if◌then◌else◌, map, true};
 ghost use Rattle.bstr.specs.Text.{lines_of, without_terminator};
-ghost use Rattle.lgp_stream.specs.Language.{is_question};
-ghost use Rattle.lgp_desk.specs.Json.{has_objects, is_for_programs, json_answer, json_line, json_lines, json_note, json_own, json_reply, json_string, json_typed};
+ghost use Rattle.lgp_desk.specs.Json.{json_answer, json_line, json_lines, json_note, json_own, json_reply, json_string, json_typed};
 
 use bstr::ByteSlice;
 use lgp_fields::push_escaped;
-use lgp_stream::{is_question, split_word};
+use lgp_monitor::Answered;
 use std::alloc::{AllocError, Allocator};
 
 /// Appends a string.
@@ -20,24 +19,6 @@ fn push_string<A: Allocator>(text: &mut Vec<u8, A>, bytes: &[u8]) -> Result<(), 
     text.extend_from_slice(b"\"")
 }
 
-/// Whether the replies to a command are for programs.
-fn is_for_programs(name: &[u8]) -> bool
-    ensures { result ≡ is_for_programs name.now }
-{
-    name == b"json".as_slice()
-        || name == b"look".as_slice()
-        || name == b"cost".as_slice()
-        || name.ends_with(b"-data")
-}
-
-/// Whether the reply to a line has an object on each line.
-#[tactic(auto, unfolding(crate::specs::Json::has_objects))]
-fn has_objects(line: &[u8], reply: &[u8]) -> bool
-    ensures { result ≡ has_objects line.now reply.now }
-{
-    !is_question(reply) && is_for_programs(split_word(line).word)
-}
-
 /// Appends a line of a reply.
 #[tactic(auto, unfolding(crate::specs::Json::json_line))]
 fn push_line<A: Allocator>(
@@ -47,7 +28,7 @@ fn push_line<A: Allocator>(
 ) -> Result<(), AllocError>
     ensures { OnOk result (text.new.items ≡ text.old.items ++ json_line objects line.now) }
 {
-    if objects && !is_question(line) {
+    if objects {
         return text.extend_from_slice(line);
     }
     push_string(text, line)
@@ -93,11 +74,11 @@ fn push_from<A: Allocator>(text: &mut Vec<u8, A>, note: &[u8]) -> Result<(), All
 }
 
 /// The end of a reply's lines, and whether it is a refusal.
-fn reply_end(reply: &[u8]) -> &'static [u8]
-    ensures { result.now ≡ (if is_question reply.now
+fn reply_end(refused: bool) -> &'static [u8]
+    ensures { result.now ≡ (if refused
         then codes "],\"refused\":true" else codes "],\"refused\":false") }
 {
-    if is_question(reply) {
+    if refused {
         b"],\"refused\":true"
     } else {
         b"],\"refused\":false"
@@ -108,16 +89,16 @@ fn reply_end(reply: &[u8]) -> &'static [u8]
 #[tactic(auto, unfolding(crate::specs::Json::json_reply))]
 fn push_reply<A: Allocator>(
     text: &mut Vec<u8, A>,
-    objects: bool,
+    answer: Answered,
     note: &[u8],
     reply: &[u8],
 ) -> Result<(), AllocError>
     ensures { OnOk result (text.new.items
-        ≡ text.old.items ++ json_reply objects note.now reply.now) }
+        ≡ text.old.items ++ json_reply answer note.now reply.now) }
 {
     text.extend_from_slice(b"\"reply\":[")?;
-    push_lines(text, objects, reply)?;
-    text.extend_from_slice(reply_end(reply))?;
+    push_lines(text, answer.has_objects, reply)?;
+    text.extend_from_slice(reply_end(answer.is_refused))?;
     push_from(text, note)?;
     text.extend_from_slice(b"}\n")
 }
@@ -142,14 +123,15 @@ pub(crate) fn push_answer<A: Allocator>(
     front: &[u8],
     longer: bool,
     note: &[u8],
+    answer: Answered,
     reply: &[u8],
 ) -> Result<(), AllocError>
     ensures { OnOk result (text.new.items
-        ≡ text.old.items ++ json_answer front.now longer note.now reply.now) }
+        ≡ text.old.items ++ json_answer front.now longer note.now answer reply.now) }
 {
     text.extend_from_slice(b"{")?;
     push_typed(text, front, longer)?;
-    push_reply(text, has_objects(front, reply), note, reply)
+    push_reply(text, answer, note, reply)
 }
 
 /// Appends the object for a reply of the desk itself.
@@ -157,10 +139,16 @@ pub(crate) fn push_answer<A: Allocator>(
 pub(crate) fn push_own<A: Allocator>(
     text: &mut Vec<u8, A>,
     note: &[u8],
+    refused: bool,
     reply: &[u8],
 ) -> Result<(), AllocError>
-    ensures { OnOk result (text.new.items ≡ text.old.items ++ json_own note.now reply.now) }
+    ensures { OnOk result (text.new.items
+        ≡ text.old.items ++ json_own note.now refused reply.now) }
 {
+    let answer = Answered {
+        is_refused: refused,
+        has_objects: false,
+    };
     text.extend_from_slice(b"{")?;
-    push_reply(text, false, note, reply)
+    push_reply(text, answer, note, reply)
 }

@@ -1,19 +1,19 @@
 //! What follows from the definitions, each law as the contract of a function that does nothing.
 
-ghost use Rattle.std.specs.Prelude.{◌≡◌, ◌++◌, ◌≤◌, All, List, Ok, false, length, ℕ};
+ghost use Rattle.std.specs.Prelude.{◌≡◌, ◌≤◌, All, Bool, List, None, Ok, Option, Some, false, length, ℕ};
 ghost use Rattle.lgp_flexo.specs.Code.{IsCode};
 ghost use Rattle.lgp_flexo.specs.TapeText.{tape_limit};
 ghost use Rattle.lgp_listing.specs.Dump.{IsDrum, dump_of};
 ghost use Rattle.lgp_exchange.specs.Deposits.{deposits_of};
-ghost use Rattle.lgp_stream.specs.KeptLine.{Kept};
-ghost use Rattle.lgp_stream.specs.Language.{is_question};
 ghost use Rattle.std.specs.List.{AllByRecursion};
 ghost use Rattle.lgp_stream.specs.Transcript.{IsReportedByTranscript};
 ghost use Rattle.lgp_script.specs.Script.{script_language};
 ghost use Rattle.lgp_script.specs.LabState.{opening_state};
-ghost use Rattle.lgp_desk.specs.Desk.{IsSayable, IsTyped, Seat, Told, all_said, echo_of, nothing, said_to, taken_seat, wish_at};
+ghost use Rattle.lgp_desk.specs.Desk.{IsSayable, IsTyped, Seat, Told, all_said, nothing, said_to, taken_seat, wish_at};
 ghost use Rattle.lgp_desk.specs.FileForms.{dump_in, tape_of, tape_text};
-ghost use Rattle.lgp_desk.specs.Sessions.{is_wished};
+ghost use Rattle.lgp_desk.specs.Drawers.{Drawer, IsSessionText, drawer_answer, outer_in, told_for};
+ghost use Rattle.lgp_desk.specs.Files.{FileCall, HaveAnswered};
+ghost use Rattle.lgp_desk.specs.Sessions.{AreWished, IsFirstOf, IsSession, is_wished};
 ghost use Rattle.lgp_desk.specs.declared.request.DrumForm.TheVariants as drums;
 ghost use Rattle.lgp_desk.specs.declared.request.TapeForm.{TapeForm};
 ghost use Rattle.lgp_desk.specs.declared.writing.Manner.{Manner};
@@ -25,15 +25,6 @@ use std::alloc::Allocator;
 pub fn what_is_not_wished_for_changes_nothing()
     ensures { (seat : Seat) (told : Told) → is_wished (wish_at seat) told ≡ false
         → said_to seat told ≡ nothing seat }
-{}
-
-/// What is written for a line that is shown above its reply is counted as the reply alone would be, and so of a text.
-#[tactic(auto, unfolding(crate::specs::Desk::echo_of))]
-pub fn echo_asks_as_its_reply()
-    ensures line { (kept : Kept) (reply rest : List ℕ)
-        → is_question (echo_of kept.front kept.longer reply ++ rest) ≡ is_question reply }
-    ensures text { (kind reply rest : List ℕ)
-        → is_question (echo_of kind false reply ++ rest) ≡ is_question reply }
 {}
 
 /// Whatever is typed, and whatever files hold that are named: the laboratory is where the script language puts it for the
@@ -53,4 +44,20 @@ pub fn what_is_kept_is_read_back()
         → tape_of form (tape_text form tape) ≡ Ok tape }
     ensures drums { (words : List ℕ) → IsDrum words
         → dump_in drums.Simh (deposits_of words) ≡ Ok (dump_of words) }
+{}
+
+/// Where it is known what files hold at first, and which of them are written: it is known what a desk is told of them. What was kept under
+/// a name is what the next read of that name finds. And exactly the session's text is written for these files, names and lines.
+#[tactic(auto, using(crate::proofs::DrawerLaws::known_told))]
+pub fn what_files_hold_is_what_is_told()
+    ensures told { (told : List Told) (before after : Drawer) (seat : Seat)
+        (calls : List FileCall) (coming : List Told)
+        → AreWished seat told calls → HaveAnswered drawer_answer before calls after
+        → before.left ≡ None → IsFirstOf (outer_in told) coming
+        → told ≡ told_for (length told) before seat coming }
+    ensures written { (calls : List FileCall) (before after : Drawer) (manner : Manner)
+        (names : List (List ℕ)) (text : List ℕ) (refused : Bool) (w₀ w : Option (List ℕ))
+        → IsSession calls (taken_seat manner) names (Some text) refused w₀ w
+        → HaveAnswered drawer_answer before calls after → before.left ≡ None
+        → IsSessionText before manner names text refused w₀ w }
 {}

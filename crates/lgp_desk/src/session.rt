@@ -3,6 +3,7 @@
 ghost use Rattle.std.specs.Prelude.{◌≡◌, IfErr, IfOk, false, map};
 ghost use Rattle.std.specs.String.{string_bytes};
 ghost use Rattle.lgp_lab.specs.Tasks.{IsUnread};
+ghost use Rattle.lgp_desk.specs.Files.{ByCalls};
 ghost use Rattle.lgp_desk.specs.Sessions.{IsAsked, IsHeld, session_manner, session_status};
 
 use crate::answering::attend;
@@ -30,15 +31,15 @@ pub fn hold_session<A: Allocator + Copy, B: Allocator, P: Progress, F: Files, R:
     alloc: A,
     manner: Manner,
     names: &[FileName<B>],
-    files: &F,
+    files: &mut F,
     progress: P,
     input: &mut R,
     output: &mut W,
 ) -> u8
-    ensures { IsHeld (F.known files.now) manner names.now (R.remaining input.old)
-        (R.remaining input.new)
+    ensures { ByCalls F.answer files.old files.new (λ calls. IsHeld calls manner names.now
+        (R.remaining input.old) (R.remaining input.new)
         (record { read = R.failed input.new; write = W.failed output.new }) result
-        (W.contents output.old) (W.contents output.new) }
+        (W.contents output.old) (W.contents output.new)) }
 {
     session_status(attend(alloc, manner, names, files, progress, input, output))
 }
@@ -61,16 +62,16 @@ fn hold_task<A: Allocator + Copy, P: Progress, F: Files, R: Feed, W: Sink>(
     alloc: A,
     task: &SessionTask<A>,
     manner: Manner,
-    files: &F,
+    files: &mut F,
     progress: P,
     input: &mut R,
     output: &mut W,
 ) -> u8
-    ensures { IsHeld (F.known files.now) (session_manner manner task.now) task.now.files
-        (R.remaining input.old)
-        (R.remaining input.new)
+    ensures { ByCalls F.answer files.old files.new (λ calls.
+        IsHeld calls (session_manner manner task.now) task.now.files
+        (R.remaining input.old) (R.remaining input.new)
         (record { read = R.failed input.new; write = W.failed output.new }) result
-        (W.contents output.old) (W.contents output.new) }
+        (W.contents output.old) (W.contents output.new)) }
 {
     hold_session(
         alloc,
@@ -92,7 +93,7 @@ pub fn obey_session<A: Allocator + Copy, P: Progress, F: Files, R: Feed, W: Sink
     alloc: A,
     words: Result<&[String], WordFault>,
     manner: Manner,
-    files: &F,
+    files: &mut F,
     progress: P,
     input: &mut R,
     output: &mut W,
@@ -100,11 +101,12 @@ pub fn obey_session<A: Allocator + Copy, P: Progress, F: Files, R: Feed, W: Sink
 ) -> u8
     requires output { W.failed output.old ≡ false }
     requires messages { M.failed messages.old ≡ false }
-    ensures asked { IfOk words.entry (λ words.
-        IsAsked A (F.known files.now) manner (map string_bytes words.now) (R.remaining input.old)
+    ensures asked { IfOk words.entry (λ words. ByCalls F.answer files.old files.new (λ calls.
+        IsAsked A calls manner (map string_bytes words.now) (R.remaining input.old)
         (R.remaining input.new) (record { read = R.failed input.new; write = W.failed output.new })
         (M.failed messages.new) result (W.contents output.old) (W.contents output.new)
-        (M.contents messages.old) (M.contents messages.new)) }
+        (M.contents messages.old) (M.contents messages.new))) }
+    ensures unasked { IfErr words.entry (λ _. files.new ≡ files.old) }
     ensures unread { IfErr words.entry (λ fault.
         IsUnread fault (M.failed messages.new) result
         (W.contents output.old) (W.contents output.new)

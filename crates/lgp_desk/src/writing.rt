@@ -1,12 +1,11 @@
 //! What is written for a reply.
 
 ghost use Rattle.std.specs.Prelude.{◌≡◌, ◌++◌, IfOk, OnOk, codes, if◌then◌else◌};
-ghost use Rattle.lgp_stream.specs.Language.{is_question};
 ghost use Rattle.lgp_desk.specs.Desk.{echo_in, echo_of, form_in, note_line, written, written_last, written_own};
 
 use crate::json;
 use lgp_fields::RecordForm;
-use lgp_stream::is_question;
+use lgp_monitor::Answered;
 use std::alloc::{AllocError, Allocator};
 
 /// For how many bytes there is room where a reply begins; most replies are shorter.
@@ -36,10 +35,10 @@ pub(crate) fn form_in(manner: Manner) -> RecordForm
 }
 
 /// The mark in front of a line that is shown above its reply.
-fn mark_of(reply: &[u8]) -> &'static [u8]
-    ensures { result.now ≡ (if is_question reply.now then codes "? " else codes "> ") }
+fn mark_of(refused: bool) -> &'static [u8]
+    ensures { result.now ≡ (if refused then codes "? " else codes "> ") }
 {
-    if is_question(reply) { b"? " } else { b"> " }
+    if refused { b"? " } else { b"> " }
 }
 
 /// The end of a line that is shown.
@@ -53,14 +52,14 @@ fn line_end(longer: bool) -> &'static [u8]
 #[tactic(auto, unfolding(crate::specs::Desk::echo_of))]
 fn push_echo<A: Allocator>(
     text: &mut Vec<u8, A>,
+    refused: bool,
     front: &[u8],
     longer: bool,
-    reply: &[u8],
 ) -> Result<(), AllocError>
     ensures { OnOk result (text.new.items
-        ≡ text.old.items ++ echo_of front.now longer reply.now) }
+        ≡ text.old.items ++ echo_of refused front.now longer) }
 {
-    text.extend_from_slice(mark_of(reply))?;
+    text.extend_from_slice(mark_of(refused))?;
     text.extend_from_slice(front)?;
     text.extend_from_slice(line_end(longer))
 }
@@ -69,16 +68,16 @@ fn push_echo<A: Allocator>(
 pub(crate) fn push_shown<A: Allocator>(
     text: &mut Vec<u8, A>,
     manner: Manner,
+    refused: bool,
     front: &[u8],
     longer: bool,
-    reply: &[u8],
 ) -> Result<(), AllocError>
     ensures { OnOk result (text.new.items
-        ≡ text.old.items ++ echo_in manner (echo_of front.now longer reply.now)) }
+        ≡ text.old.items ++ echo_in manner (echo_of refused front.now longer)) }
 {
     match manner {
         Manner::Bare | Manner::Prompting | Manner::Json => Ok(()),
-        Manner::Echoing => push_echo(text, front, longer, reply),
+        Manner::Echoing => push_echo(text, refused, front, longer),
     }
 }
 
@@ -92,45 +91,34 @@ fn push_note<A: Allocator>(text: &mut Vec<u8, A>, note: &[u8]) -> Result<(), All
     text.extend_from_slice(b"\n")
 }
 
-/// Appends where the line of a reply comes from.
+/// Appends where the line of a refusal comes from.
 #[tactic(auto, unfolding(crate::specs::Desk::note_line))]
 fn push_note_line<A: Allocator>(
     text: &mut Vec<u8, A>,
+    refused: bool,
     note: &[u8],
-    reply: &[u8],
 ) -> Result<(), AllocError>
     ensures { OnOk result (text.new.items
-        ≡ text.old.items ++ note_line note.now reply.now) }
+        ≡ text.old.items ++ note_line refused note.now) }
 {
-    if is_question(reply) && !note.is_empty() {
+    if refused && !note.is_empty() {
         return push_note(text, note);
     }
     Ok(())
 }
 
-/// Appends to a reply where its line comes from.
-#[tactic(auto, unfolding(crate::specs::Desk::note_line))]
-fn note_reply<A: Allocator>(reply: &mut Vec<u8, A>, note: &[u8]) -> Result<(), AllocError>
-    ensures { OnOk result (reply.new.items
-        ≡ reply.old.items ++ note_line note.now reply.old.items) }
-{
-    if is_question(reply) && !note.is_empty() {
-        return push_note(reply, note);
-    }
-    Ok(())
-}
-
-/// Appends a reply and where its line comes from.
+/// Appends a reply and, where it is a refusal, where its line comes from.
 fn push_noted<A: Allocator>(
     text: &mut Vec<u8, A>,
     note: &[u8],
+    refused: bool,
     reply: &[u8],
 ) -> Result<(), AllocError>
     ensures { OnOk result (text.new.items
-        ≡ text.old.items ++ (reply.now ++ note_line note.now reply.now)) }
+        ≡ text.old.items ++ (reply.now ++ note_line refused note.now)) }
 {
     text.extend_from_slice(reply)?;
-    push_note_line(text, note, reply)
+    push_note_line(text, refused, note)
 }
 
 /// Appends what is written for a line, of which this is the front.
@@ -140,16 +128,17 @@ pub(crate) fn push_written<A: Allocator>(
     front: &[u8],
     longer: bool,
     note: &[u8],
+    answer: Answered,
     reply: &[u8],
 ) -> Result<(), AllocError>
     ensures { OnOk result (text.new.items
-        ≡ text.old.items ++ written manner front.now longer note.now reply.now) }
+        ≡ text.old.items ++ written manner front.now longer note.now answer reply.now) }
 {
     if manner == Manner::Json {
-        return json::push_answer(text, front, longer, note, reply);
+        return json::push_answer(text, front, longer, note, answer, reply);
     }
-    push_shown(text, manner, front, longer, reply)?;
-    push_noted(text, note, reply)
+    push_shown(text, manner, answer.is_refused, front, longer)?;
+    push_noted(text, note, answer.is_refused, reply)
 }
 
 /// What is written for a line, of which this is the front. A reply that is written as it is has no second text.
@@ -159,19 +148,20 @@ pub(crate) fn written<A: Allocator + Copy>(
     front: &[u8],
     longer: bool,
     note: &[u8],
+    answer: Answered,
     mut reply: Vec<u8, A>,
 ) -> Result<Vec<u8, A>, AllocError>
     ensures { IfOk result (λ text. text.items
-        ≡ written manner front.now longer note.now reply.items) }
+        ≡ written manner front.now longer note.now answer reply.items) }
 {
     match manner {
         Manner::Bare | Manner::Prompting => {
-            note_reply(&mut reply, note)?;
+            push_note_line(&mut reply, answer.is_refused, note)?;
             Ok(reply)
         }
         Manner::Echoing | Manner::Json => {
             let mut text = Vec::with_capacity(alloc, REPLY_ROOM)?;
-            push_written(&mut text, manner, front, longer, note, &reply)?;
+            push_written(&mut text, manner, front, longer, note, answer, &reply)?;
             Ok(text)
         }
     }
@@ -182,14 +172,17 @@ pub(crate) fn push_own<A: Allocator>(
     text: &mut Vec<u8, A>,
     manner: Manner,
     note: &[u8],
+    refused: bool,
     reply: &[u8],
 ) -> Result<(), AllocError>
     ensures { OnOk result (text.new.items
-        ≡ text.old.items ++ written_own manner note.now reply.now) }
+        ≡ text.old.items ++ written_own manner note.now refused reply.now) }
 {
     match manner {
-        Manner::Json => json::push_own(text, note, reply),
-        Manner::Bare | Manner::Prompting | Manner::Echoing => push_noted(text, note, reply),
+        Manner::Json => json::push_own(text, note, refused, reply),
+        Manner::Bare | Manner::Prompting | Manner::Echoing => {
+            push_noted(text, note, refused, reply)
+        }
     }
 }
 
@@ -198,14 +191,15 @@ pub(crate) fn push_own<A: Allocator>(
 pub(crate) fn push_last<A: Allocator>(
     text: &mut Vec<u8, A>,
     manner: Manner,
+    refused: bool,
     reply: &[u8],
 ) -> Result<(), AllocError>
     ensures { OnOk result (text.new.items
-        ≡ text.old.items ++ written_last manner reply.now) }
+        ≡ text.old.items ++ written_last manner refused reply.now) }
 {
     match manner {
         Manner::Json if reply.is_empty() => Ok(()),
-        Manner::Json => json::push_own(text, b"", reply),
+        Manner::Json => json::push_own(text, b"", refused, reply),
         Manner::Bare | Manner::Echoing => text.extend_from_slice(reply),
         Manner::Prompting => {
             text.extend_from_slice(reply)?;

@@ -3,22 +3,40 @@
 mod growths;
 mod json;
 mod kept;
+mod known;
 mod progress;
 mod sessions;
 mod steps;
 
-ghost use Rattle.std.specs.Prelude.{None};
+ghost use Rattle.std.specs.Io.{ReadsAtMost};
 
 use crate::{expect_eq, is_done};
 use lgp_desk::{FileTrouble, Files, Manner, attend};
 use lgp_lab::{Feed, FeedOf, FileNames, READS, SinkOf};
 use lgp_monitor::{Progress, Silence};
-use lgp_stream::StreamFault;
+use lgp_stream::{Failed, StreamFault};
 use std::alloc::{Allocator, Global};
 
-/// A few files, of which `kept` may be written.
-#[derive(Clone, Copy, Drop)]
-pub(crate) struct Made;
+/// A few files, of which `kept` may be written, and what the open one has left.
+#[derive(Drop)]
+pub(crate) struct Made {
+    left: Option<FeedOf<&'static [u8]>>,
+}
+
+/// A few files, of which none is open.
+pub(crate) fn few_files() -> Made {
+    Made { left: None }
+}
+
+/// Reads on in a file, if one is open.
+pub(crate) fn read_on<R: Feed>(left: &mut Option<R>, buffer: &mut [u8]) -> Result<usize, Failed>
+    ensures { ReadsAtMost result buffer.new }
+{
+    match left {
+        Some(feed) => feed.read(buffer),
+        None => Err(Failed),
+    }
+}
 
 /// A tape as long as a line has room for, one that is longer by a code, and one of carriage returns.
 const FITTING: [u8; 4090] = [b'f'; 4090];
@@ -75,18 +93,25 @@ fn bytes_of(name: &str) -> Option<&'static [u8]> {
 }
 
 impl Files for Made {
-    ghost known = { λ files name. None };
+    ghost answer = { λ files call after. Unit {0} };
 
-    type Reader = FeedOf<&'static [u8]>;
-
-    fn open(&self, name: &str) -> Option<FeedOf<&'static [u8]>> {
-        match bytes_of(name) {
-            Some(bytes) => Some(FeedOf::new(bytes, READS)),
-            None => None,
+    fn open(&mut self, name: &str) -> bool {
+        self.left = None;
+        if let Some(bytes) = bytes_of(name) {
+            self.left = Some(FeedOf::new(bytes, READS));
         }
+        self.left.is_some()
     }
 
-    fn keep(&self, name: &str, _text: &[u8]) -> bool {
+    fn read(&mut self, buffer: &mut [u8]) -> Result<usize, Failed> {
+        read_on(&mut self.left, buffer)
+    }
+
+    fn close(&mut self) {
+        self.left = None;
+    }
+
+    fn keep(&mut self, name: &str, _text: &[u8]) -> bool {
         name == "kept"
     }
 }
@@ -95,7 +120,7 @@ impl Files for Made {
 fn answer_read<A: Allocator + Copy, F: Files, P: Progress, R: Feed>(
     alloc: A,
     manner: Manner,
-    files: &F,
+    files: &mut F,
     progress: P,
     reader: &mut R,
     written: &mut Vec<u8>,
@@ -117,7 +142,7 @@ fn answer_read<A: Allocator + Copy, F: Files, P: Progress, R: Feed>(
 pub(crate) fn answer<A: Allocator + Copy, F: Files, P: Progress>(
     alloc: A,
     manner: Manner,
-    files: &F,
+    files: &mut F,
     progress: P,
     typed: &[u8],
     written: &mut Vec<u8>,
@@ -133,10 +158,10 @@ pub(crate) fn run<A: Allocator + Copy>(
     typed: &[u8],
     written: &mut Vec<u8>,
 ) -> Result<bool, StreamFault> {
-    answer(alloc, manner, &Made, Silence, typed, written)
+    answer(alloc, manner, &mut few_files(), Silence, typed, written)
 }
 
-/// Typed lines, how they are written, what is written, and whether a reply begins with a question mark.
+/// Typed lines, how they are written, what is written, and whether a reply is a refusal.
 pub(crate) type Row = (Manner, &'static [u8], &'static [u8], bool);
 
 /// Whether typed lines are answered as their row says.
@@ -160,7 +185,7 @@ pub(crate) fn rows_answered(alloc: Global, rows: &[Row]) -> usize {
 }
 
 /// Lines without prompts are in `texts/` and `examples/`, and the proved program answers those.
-static LINES: [Row; 7] = [
+static LINES: [Row; 8] = [
     // Counter and status come before each line but those of a source, in which quit is a line as others.
     (
         Manner::Prompting,
@@ -189,6 +214,13 @@ static LINES: [Row; 7] = [
         true,
     ),
     (Manner::Prompting, b"quit", b"0000 halted operator> ", false),
+    // A transcript that begins with a refused line is no refusal.
+    (
+        Manner::Echoing,
+        b"? foo\ntranscript\n",
+        b"? ? foo\n? 1 Form: there is no such command; help lists them all\n> transcript\n? foo\n",
+        true,
+    ),
     (Manner::Prompting, b"", b"0000 halted operator> \n", false),
     (
         Manner::Echoing,
@@ -200,7 +232,7 @@ static LINES: [Row; 7] = [
 
 #[test]
 fn lines_at_a_desk_are_answered(rt: HostRuntime) {
-    expect_eq(&rt, rows_answered(rt.alloc(), &LINES), 7);
+    expect_eq(&rt, rows_answered(rt.alloc(), &LINES), 8);
 }
 
 /// What is written where a read fails after two lines and a part of one: their replies, and each prompt.
@@ -214,7 +246,7 @@ fn read_once(alloc: Global) -> (Result<bool, StreamFault>, bool) {
     let answer = answer_read(
         alloc,
         Manner::Prompting,
-        &Made,
+        &mut few_files(),
         Silence,
         &mut feed,
         &mut written,

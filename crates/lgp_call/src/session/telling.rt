@@ -3,8 +3,8 @@
 ghost use Rattle.std.specs.Prelude.{◌≡◌, ◌<◌, IfOk, Ok, OnOk};
 ghost use Rattle.lgp_call.specs.Reply.{IsGivenUnlessMemory};
 ghost use Rattle.lgp_call.specs.Status.{unread_status};
-ghost use Rattle.lgp_call.specs.Telling.{after_shown, after_told, kept_in, manner_of, shown_of, wish_number, with_manner, with_told};
-ghost use Rattle.lgp_desk.specs.Desk.{Found, closing_text, wish_at};
+ghost use Rattle.lgp_call.specs.Telling.{after_shown, after_told, are_several, kept_in, manner_of, shown_of, wish_number, with_manner};
+ghost use Rattle.lgp_desk.specs.Desk.{Found, closing_refuses, closing_text, said_to, wish_at};
 
 use crate::script::Outcome;
 use crate::session::{MORE_THAN_A_LINE, Session, has_line_feed, refuse};
@@ -19,6 +19,13 @@ fn text_of<A: Allocator>(alloc: A, bytes: &[u8]) -> Result<Vec<u8, A>, AllocErro
     let mut text = Vec::new(alloc);
     text.extend_from_slice(bytes)?;
     Ok(text)
+}
+
+/// Whether several lines are told as one.
+fn are_several(what: u32, text: &[u8]) -> bool
+    ensures { result ≡ are_several what text.now }
+{
+    what == 0 && has_line_feed(text)
 }
 
 /// How replies are written, by its number.
@@ -38,21 +45,22 @@ impl<A: Allocator + Copy> Session<A> {
     /// Tells the desk what a file holds.
     fn tell_found(&mut self, text: &[u8]) -> Result<Vec<u8, A>, AllocError>
         ensures reply { IfOk result (λ reply. reply.items
-            ≡ (with_told self.old (Found (Ok text.now))).reply) }
+            ≡ (said_to self.old.seat (Found (Ok text.now))).text) }
         ensures after { OnOk result (self.new.seat
-            ≡ (with_told self.old (Found (Ok text.now))).seat) }
+            ≡ (said_to self.old.seat (Found (Ok text.now))).seat) }
     {
         let text = text_of(self.alloc, text)?;
         self.desk.found(Ok(text))
     }
 
-    /// Tells the desk something by its number: the text that is to be written.
+    /// Tells the desk something by its number: the text that is to be written. Of refusals it knows this one alone.
     #[tactic(auto, unfolding(crate::specs::Session::more_than_a_line))]
     fn told(&mut self, what: u32, text: &[u8]) -> Result<Vec<u8, A>, AllocError>
         ensures reply { IfOk result (λ reply. reply.items
             ≡ (after_told self.old what text.now).reply) }
         ensures after { OnOk result (self.new.seat ≡ (after_told self.old what text.now).seat) }
     {
+        self.desk.forget_refusals();
         match what {
             0 if has_line_feed(text) => text_of(self.alloc, MORE_THAN_A_LINE),
             0 => self.desk.typed(&LineBytes::of(text)),
@@ -81,12 +89,13 @@ impl<A: Allocator + Copy> Session<A> {
         outcome: &mut Outcome,
     ) -> u32
         ensures after { result < unread_status → self.new ≡ after_told self.old what text.now }
-        ensures reply { IsGivenUnlessMemory (after_told self.old what text.now).reply
-            room.old room.new outcome.new result }
+        ensures reply { IsGivenUnlessMemory (after_told self.old what text.now).refused
+            (after_told self.old what text.now).reply room.old room.new outcome.new result }
     {
         match self.told(what, text) {
             Ok(reply) => {
                 self.reply = reply;
+                self.refused = are_several(what, text) || self.desk.has_refused();
                 self.give_reply(room, outcome)
             }
             Err(_) => refuse(outcome, 3),
@@ -132,12 +141,13 @@ impl<A: Allocator + Copy> Session<A> {
     #[tactic(auto, unfolding(crate::specs::Telling::after_shown))]
     pub fn show_into(&mut self, what: u32, room: &mut [u8], outcome: &mut Outcome) -> u32
         ensures after { result < unread_status → self.new ≡ after_shown self.old what }
-        ensures reply { IsGivenUnlessMemory (after_shown self.old what).reply
-            room.old room.new outcome.new result }
+        ensures reply { IsGivenUnlessMemory (after_shown self.old what).refused
+            (after_shown self.old what).reply room.old room.new outcome.new result }
     {
         match self.shown(what) {
             Ok(text) => {
                 self.reply = text;
+                self.refused = false;
                 self.give_reply(room, outcome)
             }
             Err(_) => refuse(outcome, 3),
@@ -155,12 +165,14 @@ impl<A: Allocator + Copy> Session<A> {
 
     /// Tells the desk that no line is typed any more, and gives the text that is to be written as `close_into` gives a reply.
     pub fn leave_into(mut self, room: &mut [u8], outcome: &mut Outcome) -> u32
-        ensures { IsGivenUnlessMemory (closing_text self.seat)
+        ensures { IsGivenUnlessMemory (closing_refuses self.seat) (closing_text self.seat)
             room.old room.new outcome.new result }
     {
+        self.desk.forget_refusals();
         match self.desk.close() {
             Ok(text) => {
                 self.reply = text;
+                self.refused = self.desk.has_refused();
                 self.give_reply(room, outcome)
             }
             Err(_) => refuse(outcome, 3),

@@ -4,7 +4,7 @@ ghost use Rattle.std.specs.Prelude.{◌≡◌, ◌++◌, ◌∷◌, [], IfOk, Li
 ghost use Rattle.std.specs.Result.{result_map_both};
 ghost use Rattle.std.specs.Str.Lines.{lines};
 ghost use Rattle.lgp_flexo.specs.TapeText.{written_tape};
-ghost use Rattle.lgp_desk.specs.Desk.{all_answered, answered, kept_or_refused, long_tape, marked, mounted, restore_word, restored, restored_or_refused, source_said, tape_or_refused, used, used_or_refused, with_file, within, written};
+ghost use Rattle.lgp_desk.specs.Desk.{all_answered, answered, kept_or_refused, long_tape, marked, mounted, plainly, restore_word, restored, restored_or_refused, source_said, tape_or_refused, used, used_or_refused, with_file, within, written};
 ghost use Rattle.lgp_desk.specs.declared.files.FileTrouble.{FileTrouble};
 
 use super::Desk;
@@ -14,7 +14,7 @@ use crate::open_file::OpenFile;
 use crate::request::{DrumForm, Work};
 use crate::trouble::{note_within, push_kept};
 use crate::writing::push_written;
-use lgp_monitor::Progress;
+use lgp_monitor::{Answered, Progress};
 use lgp_stream::{LineBytes, first_line};
 use std::alloc::{AllocError, Allocator};
 use std::mem;
@@ -49,20 +49,23 @@ impl<A: Allocator + Copy, P: Progress> Desk<A, P> {
         command: &[u8],
         name: &[u8],
         note: &[u8],
+        refused: bool,
         reply: &[u8],
     ) -> Result<Vec<u8, A>, AllocError>
         ensures text { IfOk result (λ made. made.items
             ≡ written self.old.manner (command.now ++ name.now) false (within name.now note.now)
-            reply.now) }
-        ensures after { OnOk result (self.new ≡ marked self.old
-            (written self.old.manner (command.now ++ name.now) false (within name.now note.now)
-            reply.now)) }
+            (plainly refused) reply.now) }
+        ensures after { OnOk result (self.new ≡ marked self.old refused) }
     {
         let line = self.line_of(command, name)?;
         let note = note_within(self.alloc, name, note)?;
+        let answer = Answered {
+            is_refused: refused,
+            has_objects: false,
+        };
         let mut text = Vec::new(self.alloc);
-        push_written(&mut text, self.manner, &line, false, &note, reply)?;
-        self.mark(&text);
+        push_written(&mut text, self.manner, &line, false, &note, answer, reply)?;
+        self.mark(refused);
         Ok(text)
     }
 
@@ -81,8 +84,8 @@ impl<A: Allocator + Copy, P: Progress> Desk<A, P> {
             ≡ (restored form note.now self.old name.now dump.now).seat) }
     {
         let mut reply = Vec::new(self.alloc);
-        self.monitor.restore(dump, &mut reply)?;
-        self.say_named(restore_word(form), name, note, &reply)
+        let refused = self.monitor.restore(dump, &mut reply)?;
+        self.say_named(restore_word(form), name, note, refused, &reply)
     }
 
     /// The text for a tape for whose text no line has room.
@@ -99,8 +102,8 @@ impl<A: Allocator + Copy, P: Progress> Desk<A, P> {
             ≡ (long_tape note.now self.old name.now tape.now).seat) }
     {
         let mut reply = Vec::new(self.alloc);
-        self.monitor.mount_tape(name, tape, &mut reply)?;
-        self.say_named(b"tape ", name, note, &reply)
+        let refused = self.monitor.mount_tape(name, tape, &mut reply)?;
+        self.say_named(b"tape ", name, note, refused, &reply)
     }
 
     /// Mounts a tape: the text for it.
@@ -282,6 +285,6 @@ impl<A: Allocator + Copy, P: Progress> Desk<A, P> {
         }
         let mut reply = Vec::new(self.alloc);
         push_kept(&mut reply, name)?;
-        self.say_own(note, &reply)
+        self.say_own(note, false, &reply)
     }
 }

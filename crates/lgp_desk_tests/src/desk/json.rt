@@ -6,7 +6,7 @@ use lgp_desk::Manner;
 use std::alloc::Global;
 
 /// Lines, and what is written for each of them.
-static ANSWERED: [Row; 11] = [
+static ANSWERED: [Row; 12] = [
     (
         Manner::Json,
         b"put 0000 = 1\n",
@@ -29,7 +29,7 @@ static ANSWERED: [Row; 11] = [
         Manner::Json,
         b"live now\n",
         b"{\"line\":\"live now\",\"reply\":[\"? 1 Form: live\"],\"refused\":true}\n",
-        false,
+        true,
     ),
     // A record is an object; a line that asks for one by itself has the same.
     (
@@ -44,7 +44,7 @@ static ANSWERED: [Row; 11] = [
         b"json cost 0000\njson panel\n",
         b"{\"line\":\"json cost 0000\",\"reply\":[{\"address\":\"0000\",\"label\":null,\"order\":\"z 0000\",\"find\":64,\"take\":1,\"seek\":1,\"act\":1,\"sum\":67,\"next\":\"0001\",\"next-label\":null,\"next-find\":6}],\"refused\":false}\n\
         {\"line\":\"json panel\",\"reply\":[\"? 1 Form: json LINE, where LINE is one for programs, such as state-data\"],\"refused\":true}\n",
-        false,
+        true,
     ),
     (
         Manner::Json,
@@ -63,7 +63,7 @@ static ANSWERED: [Row; 11] = [
         Manner::Json,
         b"do none\nquit\nlive\n",
         b"{\"reply\":[\"? 13 File none: it cannot be opened\"],\"refused\":true}\n",
-        false,
+        true,
     ),
     (
         Manner::Json,
@@ -78,7 +78,15 @@ static ANSWERED: [Row; 11] = [
         b"{\"line\":\"source\",\"reply\":[],\"refused\":false}\n\
         {\"line\":\" foo\",\"reply\":[],\"refused\":false}\n\
         {\"reply\":[\"? 9 Faults\",\"line 1 UnknownOrder\",\"line 2 NoEnd\"],\"refused\":true}\n",
-        false,
+        true,
+    ),
+    // A transcript that begins with a refused line is no refusal.
+    (
+        Manner::Json,
+        b"? foo\ntranscript\n",
+        b"{\"line\":\"? foo\",\"reply\":[\"? 1 Form: there is no such command; help lists them all\"],\"refused\":true}\n\
+        {\"line\":\"transcript\",\"reply\":[\"? foo\"],\"refused\":false}\n",
+        true,
     ),
 ];
 
@@ -87,7 +95,7 @@ const LONGER: [u8; 4097] = [b';'; 4097];
 
 #[test]
 fn each_line_has_its_object(rt: HostRuntime) {
-    expect_eq(&rt, rows_answered(rt.alloc(), &ANSWERED), 11);
+    expect_eq(&rt, rows_answered(rt.alloc(), &ANSWERED), 12);
 }
 
 /// Whether the object of a longer line has its front and two points, and ends as that of a line that is passed over.

@@ -1,33 +1,39 @@
 //! What is kept in files: each row's bytes are written out by hand.
 
-ghost use Rattle.std.specs.Prelude.{Some, codes};
-
-use super::answer;
+use super::{answer, read_on};
 use crate::{expect_eq, is_done};
 use lgp_desk::{Files, Manner};
 use lgp_lab::{FeedOf, READS};
 use lgp_monitor::Silence;
+use lgp_stream::Failed;
 use std::alloc::Global;
-use std::cell::Cell;
 
-/// Files that all hold a tape, of which one may be written, and whether these bytes were to be kept at last.
-#[derive(Clone, Copy, Drop)]
-struct Wanting<'a> {
+/// Files that all hold a tape, of which one may be written; what the open one has left; and whether these bytes were to be kept at last.
+#[derive(Drop)]
+struct Wanting {
+    left: Option<FeedOf<&'static [u8]>>,
     wanted: &'static [u8],
-    is_kept: &'a Cell<bool>,
+    is_kept: bool,
 }
 
-impl Files for Wanting<'_> {
-    ghost known = { λ files name. Some (codes "12[16]3'") };
+impl Files for Wanting {
+    ghost answer = { λ files call after. Unit {0} };
 
-    type Reader = FeedOf<&'static [u8]>;
-
-    fn open(&self, _name: &str) -> Option<FeedOf<&'static [u8]>> {
-        Some(FeedOf::new(b"12[16]3'", READS))
+    fn open(&mut self, _name: &str) -> bool {
+        self.left = Some(FeedOf::new(b"12[16]3'", READS));
+        true
     }
 
-    fn keep(&self, name: &str, text: &[u8]) -> bool {
-        self.is_kept.set(text == self.wanted);
+    fn read(&mut self, buffer: &mut [u8]) -> Result<usize, Failed> {
+        read_on(&mut self.left, buffer)
+    }
+
+    fn close(&mut self) {
+        self.left = None;
+    }
+
+    fn keep(&mut self, name: &str, text: &[u8]) -> bool {
+        self.is_kept = text == self.wanted;
         name == "kept"
     }
 }
@@ -70,14 +76,21 @@ static ROWS: [Row; 10] = [
 
 /// Whether a row's bytes are kept and said to be so, and nothing is refused.
 fn is_kept(alloc: Global, row: &Row) -> bool {
-    let is_kept = Cell::new(false);
-    let wanting = Wanting {
+    let mut wanting = Wanting {
+        left: None,
         wanted: row.1,
-        is_kept: &is_kept,
+        is_kept: false,
     };
     let mut written = Vec::new(alloc);
-    let outcome = answer(alloc, Manner::Bare, &wanting, Silence, row.0, &mut written);
-    is_done(outcome, false) && is_kept.get() && written.as_slice().ends_with(b"saved kept\n")
+    let outcome = answer(
+        alloc,
+        Manner::Bare,
+        &mut wanting,
+        Silence,
+        row.0,
+        &mut written,
+    );
+    is_done(outcome, false) && wanting.is_kept && written.as_slice().ends_with(b"saved kept\n")
 }
 
 /// How many rows come before the first whose bytes are not kept.

@@ -1,6 +1,6 @@
 //! What is reported of long runs while they go on.
 
-use super::{Made, answer};
+use super::{answer, few_files};
 use crate::expect_eq;
 use lgp_desk::Manner;
 use lgp_monitor::Progress;
@@ -154,7 +154,7 @@ fn is_answered(
         && answer(
             alloc,
             Manner::Bare,
-            &Made,
+            &mut few_files(),
             listener,
             typed.as_slice(),
             written,

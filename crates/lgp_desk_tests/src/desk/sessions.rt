@@ -2,7 +2,7 @@
 
 ghost use Rattle.std.specs.Prelude.{◌≡◌, false};
 
-use super::Made;
+use super::few_files;
 use crate::expect_eq;
 use lgp_desk::{Files, Manner, obey_session};
 use lgp_lab::{Feed, FeedOf, READS, Sink, SinkOf, WordFault};
@@ -32,7 +32,7 @@ fn obeyed<F: Files, R: Feed, W: Sink, M: Sink>(
     alloc: Global,
     words: Result<&[String], WordFault>,
     manner: Manner,
-    files: &F,
+    files: &mut F,
     input: &mut R,
     output: &mut W,
     messages: &mut M,
@@ -60,7 +60,7 @@ fn status_for(
         alloc,
         words,
         manner,
-        &Made,
+        &mut few_files(),
         &mut input,
         &mut output,
         &mut messages,

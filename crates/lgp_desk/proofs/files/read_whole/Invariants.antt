@@ -1,8 +1,9 @@
-use Rattle.lgp_desk.proofs.FileLemmas.{HasPart}
+use Rattle.std.proofs.Common.{◌-◌, ◌≤◌, length}
+use Rattle.lgp_desk.specs.Files.{AreReads, ByCalls, file_limit}
 use Rattle.lgp_desk.proofs.files.read_whole.Given as goal
 
 abbrev pub invariant-reads : goal.invariant-reads
-invariant-reads g l = HasPart (g.R.Feed.remaining l.fn.reader) (g.R.Feed.remaining l.reader) l.text.items
+invariant-reads g l = ByCalls g.F.Files.answer l.fn.files l.files (λ calls. AreReads calls l.text.items) × (length l.text.items ≤ file_limit)
 
 abbrev pub decreases-reads : goal.decreases-reads
-decreases-reads g l = g.R.Feed.reads l.reader
+decreases-reads g l = file_limit - length l.text.items
