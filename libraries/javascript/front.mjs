@@ -1,0 +1,601 @@
+// A sitting at a terminal: what a person types is answered line by line, nothing that was typed is lost, and what takes long can be
+// stopped.
+import { NAME } from "./aliases.mjs";
+import { Editing, lastSource, partedAtOpen } from "./editing.mjs";
+import { Stopped } from "./engines.mjs";
+import { fromHome } from "./file_names.mjs";
+import { FileTrouble, Written, keepFile } from "./files.mjs";
+import { Help } from "./help.mjs";
+import { END, INTERRUPT } from "./keyboard.mjs";
+import { bytesFrom, linesIn, textFrom, withoutReturn, wordsOf } from "./lines.mjs";
+import { LongLines, Progress, letOthersGo } from "./long.mjs";
+import { OWN, formsOf } from "./own.mjs";
+import { commandsOf, heldOf, isRefusal, linesOf, liveOf, panelOf } from "./replies.mjs";
+import { NoMemory } from "./session.mjs";
+import { SHORT, meantBy } from "./shortcuts.mjs";
+import { saidOfStop } from "./stops.mjs";
+import { Views } from "./views.mjs";
+
+const INDENT = "        ";
+/** The lines that an empty line repeats. */
+const REPEATED = ["run", "c", "orders", "operate", "trace", "step", "s", "back", "b", "forward", "look", "around"];
+/** The columns that `trace` needs. */
+const TRACE_COLUMNS = 88;
+/** From how many orders on a line is done in portions, and from how many on one without portions can be taken back while it is answered. */
+const PORTIONED = { run: 100_000, orders: 100_000, operate: 1000, trace: 1, drum: 1000 };
+const TAKEN_BACK = { profile: 1_000_000, optimum: 1_000_000, json: 10_000, at: 1_000_000 };
+/** The number after a command that takes one, null where it is none, and what may come after it. */
+function countedIn(command, [number, until, ...condition]) {
+    const isUntil = command === "run" && until === "until";
+    const isCounted = number !== undefined && isNumber(number) && (until === undefined || isUntil);
+    return { limit: isCounted ? Number(number) : null, more: isUntil ? ` until ${condition.join(" ")}` : "" };
+}
+/** How often a line that is answered asks whether a key was pressed, in milliseconds. */
+const HEARS_EVERY = 50;
+/** The commands that write a file, with what stands after their first word. */
+const WRITING = /^ *(?:transcript|(?:copy|punch|save)(?:-\S+)?) +(.*?) *$/;
+
+/** The commands that put the session away. */
+const PUTTING_AWAY = ["new", "resume", "to"];
+
+const isNumber = (word) => /^\d{1,10}$/.test(word ?? "");
+
+export class Front {
+    #engine;
+    #keyboard;
+    #shelf;
+    #aliases;
+    #write;
+    #hasColour;
+    #isPlain;
+    /** Draws what stays for a while: how far a line is. A plain terminal cannot take it away again. */
+    #draw;
+    #columns;
+    #views;
+    #helper;
+    #long;
+    #editing;
+    #source = null;
+    #atHand = null;
+    #isAsked = false;
+    /** The line that was asked about: typed once more, it is done. */
+    #doubted = null;
+    #repeated = "";
+    #isFileTyped = false;
+    #takes = null;
+    #written = new Written();
+
+    /**
+     * A sitting with an engine, a keyboard, the shelf on which it is kept, the user's short names, what writes, whether there is colour,
+     * whether replies alone are shown, and what tells the terminal's columns.
+     */
+    constructor({ engine, keyboard, shelf, aliases, write, hasColour, isPlain, columns }) {
+        this.#engine = engine;
+        this.#keyboard = keyboard;
+        this.#shelf = shelf;
+        this.#aliases = aliases;
+        this.#write = write;
+        this.#hasColour = hasColour;
+        this.#isPlain = isPlain;
+        this.#draw = isPlain ? () => {} : write;
+        this.#columns = isPlain ? () => TRACE_COLUMNS : columns;
+        const ask = (line) => engine.ask(line);
+        this.#views = new Views(ask, hasColour);
+        this.#helper = new Help(ask, OWN, () => engine.openBeside(), () => this.#isNarrow);
+        const type = (line) => this.#type(line);
+        this.#long = new LongLines({ type, isInterrupted: () => keyboard.isInterrupted, write, draw: this.#draw });
+        this.#editing = new Editing({ keyboard, note: (text) => this.#note(text), keep: (lines) => this.#keepLeft(lines) });
+    }
+
+    get #isNarrow() {
+        return this.#columns() < TRACE_COLUMNS;
+    }
+
+    /** The lines of the source that is open; null where none is. */
+    get openSource() {
+        return this.#source;
+    }
+
+    /** Types lines until the person has left. */
+    async sit() {
+        this.#greet();
+        if (!this.#isPlain) await this.#views.settle();
+        while (!this.#engine.hasLeft) {
+            const line = await this.#keyboard.line(await this.#prompt());
+            if (line === END && (this.#source === null || this.#keyboard.hasEnded)) break;
+            if (line === INTERRUPT || line === END) this.#interrupt();
+            else await this.#takeSafely(textFrom(Buffer.from(line)));
+            for (const told of this.#shelf.takeNews()) this.#note(told);
+        }
+        await this.#keepTranscript();
+    }
+
+    #say(text) {
+        this.#write(this.#hasColour ? text.replace(/^\?.*$/gm, "\x1b[31m$&\x1b[0m") : text);
+    }
+
+    #note(text) {
+        this.#write(`${text}\n`);
+    }
+
+    /** What a command of the terminal's own refuses. */
+    #refuse(command, why) {
+        this.#say(`? 1 Form: ${formsOf(command)}: ${why}\n`);
+    }
+
+    #greet() {
+        if (this.#shelf.trouble !== null) this.#note(`nothing of this session is kept: ${this.#shelf.trouble}`);
+        const last = this.#shelf.lastSession();
+        if (last !== null) this.#note(`the last session was saved (${told(last)}): resume continues it`);
+        for (const path of this.#shelf.unread) this.#note(`${path} cannot be read, and is ignored`);
+    }
+
+    async #prompt() {
+        if (this.#source !== null || this.#engine.isSourceOpen) return "source> ";
+        const { counter, status } = panelOf(await this.#engine.ask("json panel-data"));
+        return `${counter} ${status}> `;
+    }
+
+    // ---- a source, whose lines reach the laboratory when it is closed
+
+    /** Ctrl-C: at a source it asks once, and then leaves it. */
+    #interrupt() {
+        if (this.#source === null) return;
+        if (!this.#isAsked) {
+            this.#isAsked = true;
+            const open = `a source is open, lines: ${this.#source.length}`;
+            return this.#note(`${open}. Press Ctrl-C again to abandon it; a line with only a point ends it`);
+        }
+        const lines = this.#source;
+        this.#source = null;
+        this.#isAsked = false;
+        if (lines.length === 0) return this.#note("the source was abandoned");
+        this.#atHand = lines;
+        const file = this.#shelf.leaveSource();
+        this.#note(`the source was abandoned; its lines${file === null ? `:\n${lines.join("\n")}` : ` are in ${file}`}`);
+    }
+
+    /** Keeps lines as those of a source that was left; the name of their file, or null. */
+    #keepLeft(lines) {
+        this.#shelf.keepSource(lines);
+        return this.#shelf.leaveSource();
+    }
+
+    async #takeSourceLine(line) {
+        this.#isAsked = false;
+        if (line !== ".") {
+            this.#source.push(line);
+            return this.#shelf.keepSource(this.#source);
+        }
+        const lines = this.#source;
+        this.#source = null;
+        await this.#assemble(lines);
+        this.#shelf.dropSource();
+    }
+
+    async #assemble(lines) {
+        const typed = ["source", ...lines, "."];
+        for (const each of typed) this.#say(await this.#engine.type(each));
+        this.#atHand = null;
+        this.#shelf.keepTyped(...typed);
+    }
+
+    // ---- a line
+
+    /** No fault of the terminal's own ends a session; that nothing can be written any more does, and that there is no memory. */
+    async #takeSafely(typed) {
+        try {
+            await this.#take(typed);
+        } catch (failure) {
+            const isMemory = failure instanceof NoMemory;
+            if (isMemory && failure.isTakenBack) return this.#note(`there was not enough memory for this line; ${TAKEN}`);
+            if (isMemory || failure.syscall === "write" || failure.isEnd) throw failure;
+            this.#note(`this line met a fault of the program: ${failure.message}. The session goes on`);
+        }
+    }
+
+    async #take(typed) {
+        const line = withoutReturn(typed);
+        if (this.#source !== null) return this.#takeSourceLine(line);
+        if (line.trim() !== "") this.#shelf.keepLine(Buffer.from(line, "latin1").toString());
+        if (this.#engine.isSourceOpen) return this.#answer(line);
+        const isBlank = line.trim() === "";
+        if (!isBlank) this.#repeated = REPEATED.includes(wordsOf(line)[0]) ? line : "";
+        const expanded = await this.#withHome(this.#aliases.expanded(isBlank ? this.#repeated : line));
+        if (await this.#isDoubted(expanded)) return;
+        const name = WRITING.exec(expanded)?.[1];
+        if (name === undefined) await this.#takeCommand(expanded);
+        else await this.#written.by(name, () => this.#takeCommand(expanded));
+    }
+
+    /** A line with the user's home in its file's name, where that is written as in a shell. */
+    async #withHome(line) {
+        const [, front, command, name] = /^( *(\S+) +)(~.*)$/.exec(line) ?? [];
+        return name !== undefined && (await this.#takesFile(command)) ? front + textFrom(Buffer.from(fromHome(name))) : line;
+    }
+
+    /** Whether a line would lose something and has not been typed twice; then that is said. */
+    async #isDoubted(line) {
+        // what cannot be kept is found out before it is put away
+        if (PUTTING_AWAY.includes(wordsOf(line)[0])) await this.#keepTranscript();
+        const why = this.#doubted === line ? null : this.#lossBy(line);
+        this.#doubted = why === null ? null : line;
+        if (why !== null) this.#note(`${why}; the same line again does it`);
+        return why !== null;
+    }
+
+    /** What a line would lose; null where that is nothing. */
+    #lossBy(line) {
+        const name = WRITING.exec(line)?.[1];
+        const isOthers = name !== undefined && this.#written.isOthers(name);
+        if (isOthers) return `${name} is there, and was not written in this session: it would be replaced`;
+        const [command] = wordsOf(line);
+        const isLost = PUTTING_AWAY.includes(command) && this.#shelf.trouble !== null && this.#shelf.lines.length > 0;
+        return isLost ? `nothing of this session is kept, ${this.#shelf.trouble}: it would be lost` : null;
+    }
+
+    async #takeCommand(line) {
+        const [typed] = wordsOf(line);
+        const own = OWN.get(SHORT.get(typed) ?? typed);
+        const work = own === undefined || typed === "exit" ? null : this.#ownWork(SHORT.get(typed) ?? typed, own, line);
+        const meant = meantBy(line);
+        await (work ?? this.#monitorWork(meant, wordsOf(meant)) ?? (() => this.#answer(meant)))();
+        if (this.#isPlain || this.#source !== null || this.#engine.isSourceOpen || this.#engine.hasLeft) return;
+        for (const shown of await this.#views.afterMove()) this.#note(shown);
+    }
+
+    /** What is done for a command of the terminal's own; null where its line stands for one of the monitor. */
+    #ownWork(command, { most }, line) {
+        const operands = wordsOf(line).slice(1);
+        const rest = / *\S+ *(.*?) *$/.exec(line)[1];
+        if (operands.length > most) return () => this.#refuse(command, `${operands[most]} is a word too many`);
+        const isStep = command === "step" && (operands.length === 0 || isNumber(operands[0]));
+        if (command === "step") return isStep ? null : () => this.#refuse(command, `${operands[0]} is not a number`);
+        if (command === "until") return operands.length > 0 ? null : () => this.#refuse(command, "what to wait for is missing");
+        const works = {
+            look: async () => this.#note((await this.#views.look()).join("\n")),
+            around: () => this.#around(...operands),
+            change: () => this.#change(operands, rest),
+            display: () => this.#display(operands[0]),
+            undisplay: () => this.#undisplay(operands[0]),
+            "put-listing": () => this.#putListing(line),
+            edit: () => this.#edit(operands, rest),
+            sessions: () => this.#listSessions(),
+            resume: () => this.#resume(operands[0] ?? "1"),
+            to: () => this.#goTo(operands[0]),
+            transcript: rest === "" ? null : () => this.#writeTranscript(rest),
+            alias: () => this.#alias(operands, / *\S+ *\S* *(.*?) *$/.exec(line)[1]),
+            unalias: () => this.#unalias(operands[0]),
+        };
+        return works[command] ?? null;
+    }
+
+    /** What is done for a line of the monitor, where the terminal does more than type it; null where it does not. */
+    #monitorWork(line, [command, ...operands]) {
+        const form = `${command} ${operands.length}`;
+        if (form === "source 0") return () => (this.#source = []);
+        if (form === "new 0") return () => this.#beginAnew(line);
+        if (["help 0", "help 1"].includes(form)) return () => this.#help(line, operands[0]);
+        if (form === "go 1") return () => this.#go(line);
+        if (form === "press 1") return () => this.#press(line);
+        const { limit, more } = countedIn(command, operands);
+        if (limit >= PORTIONED[command]) return () => this.#inPortions(command, limit, more);
+        return this.#isLong([command, ...operands]) ? () => this.#patiently(line) : null;
+    }
+
+    /** Whether a line may take so long that it has to be stopped, and has no portions. */
+    #isLong([command, ...operands]) {
+        return command === "do" || operands.some((word) => isNumber(word) && Number(word) >= TAKEN_BACK[command]);
+    }
+
+    async #help(line, word) {
+        const lines = await this.#helper.about(word);
+        const meant = this.#aliases.all.get(word);
+        if (lines !== null) this.#note(lines.join("\n"));
+        else if (meant !== undefined) this.#note(`${word} stands for ${meant}`);
+        else await this.#answer(line);
+    }
+
+    async #around(address = "*", count = "7") {
+        // the monitor says which address that is, or why it is none, and whether so many words can be shown
+        const told = await this.#engine.ask(`json show-data ${address} 1`);
+        if (isRefusal(told)) return this.#say(told);
+        const isCount = !isRefusal(await this.#engine.ask(`json show-data 0000 ${count}`));
+        if (!isCount) return this.#say("? 1 Form: around ttss NUMBER, at most 64\n");
+        const [{ address: middle }] = heldOf(told);
+        this.#note((await this.#views.around(middle, Number(count))).join("\n"));
+    }
+
+    // ---- lines of the monitor
+
+    /** `go`: its eight lines are in the transcript, and one line says what came of them. */
+    async #go(line) {
+        const reply = await this.#type(line);
+        if (linesIn(reply).some(isRefusal)) this.#say(reply);
+        else this.#note(`started: ${(await this.#prompt()).replace(/> $/, "")}`);
+    }
+
+    async #press(line) {
+        const reply = await this.#type(line);
+        this.#say(reply);
+        if (reply !== "dead\n") return;
+        const { live } = liveOf(await this.#engine.ask("json state-data"));
+        this.#note(`${INDENT}these do something now: ${[...live].join(" ")}`);
+    }
+
+    /** Puts the word of a line as a listing has it: its address, its digits, and what comes after them. */
+    async #putListing(line) {
+        const [, before, address, between, digits] = /^( *\S+ *)(\S*)( *)(\S*)/.exec(line);
+        const refuse = (columns, why) => this.#say(`? 1 Form: column ${columns.join("").length + 1}: ${why}\n`);
+        if (!/^\d{4}$/.test(address)) return refuse([before], "a line of a listing begins with an address, two digits for the track and two for the sector");
+        if (digits.length !== 8) return refuse([before, address, between], "the eight digits of a word come after the address");
+        await this.#answer(`put ${address} ${digits}`);
+    }
+
+    /** Puts in a word; while the machine goes by the lines that an operator would type. */
+    async #change(operands, rest) {
+        if (operands.length < 2) return this.#refuse("change", "a word is missing");
+        const { status } = panelOf(await this.#engine.ask("json panel-data"));
+        if (status !== "going") return this.#answer(`put ${rest}`);
+        for (const line of ["press manual", `put ${rest}`, "press normal", "press start"]) {
+            const reply = await this.#type(line);
+            this.#write(`${INDENT}${line}\n`);
+            this.#say(reply);
+        }
+    }
+
+    /** Types a line and shows what is answered, and what there is to say about a stop. */
+    async #answer(line) {
+        const reply = await this.#type(line);
+        this.#say(reply);
+        await this.#sayOfStop(line, reply);
+    }
+
+    async #sayOfStop(line, reply) {
+        if (this.#isPlain || this.#engine.isSourceOpen || this.#engine.hasLeft) return;
+        const lines = await saidOfStop((asked) => this.#engine.ask(asked), wordsOf(line)[0], reply, () => this.#views.standstill());
+        for (const each of lines) this.#note(`${INDENT}${each}`);
+    }
+
+    /** Types a line to the engine, and keeps it. */
+    async #type(line, options) {
+        const reply = await this.#engine.type(line, options);
+        if (this.#engine.hasLeft) return reply;
+        this.#isFileTyped ||= await this.#readsFile(line);
+        if (!this.#isFileTyped || this.#engine.isSourceOpen) this.#shelf.keepTyped(line);
+        else {
+            // what a file held is kept, and not its name
+            this.#isFileTyped = false;
+            this.#shelf.keepSession(await this.#engine.ask("transcript"));
+        }
+        return reply;
+    }
+
+    async #readsFile(line) {
+        const [command, ...operands] = wordsOf(line);
+        return operands.length > 0 && this.#takesFile(command);
+    }
+
+    async #takesFile(command) {
+        if (OWN.get(command)?.takes === "file") return true;
+        this.#takes ??= commandsOf(await this.#engine.ask("commands"));
+        return ["file", "source"].includes(this.#takes.get(command)?.takes);
+    }
+
+    async #keepTranscript() {
+        if (this.#engine.isSourceOpen || this.#shelf.lines.length === 0) return;
+        this.#shelf.keepSession(await this.#engine.ask("transcript"));
+    }
+
+    // ---- what takes long
+
+    async #inPortions(command, limit, more) {
+        const isTold = ["trace", "drum"].includes(command);
+        const reply = isTold ? await this.#long.tell(command === "trace" && this.#isNarrow ? "narrow" : command, limit)
+            : command === "operate" ? await this.#long.operate(limit) : await this.#long.run(command, limit, more);
+        this.#say(reply);
+        await this.#sayOfStop(command, reply);
+        if (!this.#long.wasStopped) return;
+        const { counter } = panelOf(await this.#engine.ask("json panel-data"));
+        this.#note(`${INDENT}stopped early by Ctrl-C, at ${counter}`);
+    }
+
+    /** Types a line that has no portions: how long it takes is shown, and Ctrl-C takes it back. */
+    async #patiently(line) {
+        const reply = await this.#typeStoppably(line, (progress) => progress.showTime());
+        if (reply === null) return this.#note(`${INDENT}stopped by Ctrl-C before it was done; ${TAKEN}`);
+        this.#say(reply);
+        await this.#sayOfStop(line, reply);
+    }
+
+    /** The reply to a line; null where Ctrl-C has taken it back. */
+    async #typeStoppably(line, show) {
+        const progress = new Progress(this.#draw);
+        const lines = [...this.#shelf.lines];
+        let isOver = false;
+        const listening = (async () => {
+            while (!isOver) {
+                await new Promise((resolve) => setTimeout(resolve, HEARS_EVERY));
+                if (isOver) return;
+                // a line of which nothing is kept yet is asked again
+                if (this.#keyboard.isInterrupted) await this.#engine.takeBack(lines);
+                else show(progress);
+            }
+        })();
+        try {
+            return await this.#type(line, { isLong: true });
+        } catch (failure) {
+            if (!(failure instanceof Stopped)) throw failure;
+            return null;
+        } finally {
+            isOver = true;
+            await listening;
+            progress.clear();
+        }
+    }
+
+    // ---- sessions
+
+    async #beginAnew(line) {
+        const isThere = this.#shelf.lines.length > 0;
+        this.#say(await this.#engine.type(line));
+        this.#shelf.putSessionAway();
+        if (isThere && this.#shelf.trouble === null) this.#note("the session before this one was saved: resume continues it");
+    }
+
+    #listSessions() {
+        const sessions = this.#shelf.sessions();
+        if (sessions.length === 0) return this.#note("no session has been saved");
+        for (const [at, session] of sessions.entries()) this.#note(`${String(at + 1).padStart(3)}  ${told(session)}`);
+        this.#note("resume NUMBER continues one");
+    }
+
+    /** Does the lines of a session again. */
+    async #resume(number) {
+        const isWell = isNumber(number) && Number(number) > 0;
+        if (!isWell) return this.#refuse("resume", `${number} is not the number of a session; sessions lists them`);
+        const sessions = this.#shelf.sessions();
+        const session = sessions[Number(number) - 1];
+        if (sessions.length === 0) return this.#note("no session has been saved");
+        if (session === undefined) return this.#note(`no session has this number; they are ${sessions.length}: sessions lists them`);
+        await this.#engine.type("new");
+        this.#shelf.putSessionAway();
+        const { closed, open } = partedAtOpen(session.lines);
+        const isDone = await this.#repeatAll(closed);
+        if (session.isCut) this.#note("its last line was kept only in part, and was not repeated");
+        const source = open ?? session.source?.lines ?? null;
+        if (source !== null && isDone) this.#openAgain(source);
+    }
+
+    /** Goes to the beginning of an order, in a session of its own that does the lines which lead there. */
+    async #goTo(number) {
+        if (!isNumber(number)) return this.#refuse("to", number === undefined ? "the number of an order is missing" : `${number} is not a number`);
+        const there = await this.#engine.ask(`at ${number} panel`);
+        if (isRefusal(there)) return this.#say(there);
+        const lines = linesOf(await this.#engine.ask(`at ${number} transcript`));
+        await this.#beginAnew("new");
+        await this.#repeatAll(lines);
+    }
+
+    /** Does lines again, and says how many; whether all of them were done. */
+    async #repeatAll(lines) {
+        const { done, refused } = await this.#repeat(lines);
+        const repeated = done < lines.length ? `${done} of ${lines.length}, stopped by Ctrl-C; the session stays saved` : done;
+        this.#note(`lines repeated: ${repeated}${refused > 0 ? `, refused again: ${refused}` : ""}`);
+        return done === lines.length;
+    }
+
+    #openAgain(lines) {
+        this.#source = [...lines];
+        this.#shelf.keepSource(this.#source);
+        this.#note(`the source that was open is open again, lines: ${lines.length}`);
+    }
+
+    /** How many lines were repeated, and how many were refused, up to Ctrl-C. A source that is not closed is open. */
+    async #repeat(lines) {
+        const progress = new Progress(this.#draw);
+        let [done, refused] = [0, 0];
+        for (const line of lines) {
+            const reply = await this.#repeatLine(line, () => progress.showLines(done, lines.length));
+            if (reply === null) break;
+            if (isRefusal(reply)) refused++;
+            done++;
+            await letOthersGo();
+            if (this.#keyboard.isInterrupted) break;
+            progress.showLines(done, lines.length);
+        }
+        progress.clear();
+        return { done, refused };
+    }
+
+    /** The reply to a line that is repeated; null where it was stopped within. */
+    async #repeatLine(line, show) {
+        const words = wordsOf(line);
+        const { limit, more } = countedIn(words[0], words.slice(1));
+        const isRun = ["run", "orders"].includes(words[0]) && limit !== null;
+        if (this.#engine.isSourceOpen || !(isRun || this.#isLong(words))) return this.#type(line);
+        if (!isRun) return this.#typeStoppably(line, show);
+        const reply = await this.#long.run(words[0], limit, more, show);
+        return this.#long.wasStopped ? null : reply;
+    }
+
+    async #writeTranscript(name) {
+        const transcript = await this.#engine.ask("transcript");
+        this.#withFile(name, () => {
+            keepFile(name, bytesFrom(transcript));
+            this.#note(`saved ${name}, lines: ${linesIn(transcript).length}`);
+        });
+    }
+
+    /** What a work on a file gives, or a refusal. */
+    async #withFile(name, work) {
+        try {
+            return await work();
+        } catch (trouble) {
+            if (!(trouble instanceof FileTrouble)) throw trouble;
+            this.#say(`? 13 File ${name}: ${trouble.message}\n`);
+            return null;
+        }
+    }
+
+    // ---- a source that is edited
+
+    async #edit(operands, rest) {
+        if (operands.length > 0 && !isNumber(rest)) {
+            if (await this.#withFile(rest, () => this.#editing.file(rest))) await this.#answer(`source ${rest}`);
+            return;
+        }
+        const before = this.#atHand ?? lastSource(await this.#engine.ask("transcript"));
+        const isThere = rest === "" || before?.[Number(rest) - 1] !== undefined;
+        if (!isThere) return this.#refuse("edit", before === null ? "there is no source yet" : `the source has ${before.length} lines`);
+        const after = rest === "" ? await this.#editing.lines(before ?? []) : await this.#editing.line(before, Number(rest));
+        if (after !== null) await this.#assemble(after);
+    }
+
+    // ---- words that are shown after each move
+
+    async #display(address) {
+        if (address !== undefined) {
+            const reply = await this.#engine.ask(`json show-data ${address} 1`);
+            if (isRefusal(reply)) return this.#say(reply);
+            this.#views.display(address);
+        }
+        const shown = await this.#views.displayed();
+        this.#note(shown.length === 0 ? "no word is displayed: display ttss shows one after each move" : shown.join("\n"));
+    }
+
+    #undisplay(address = null) {
+        if (!this.#views.hide(address)) this.#note(address === null ? "no word is displayed" : `${address} is not displayed`);
+    }
+
+    // ---- short names
+
+    async #alias([name], line) {
+        const { all } = this.#aliases;
+        const listed = [...all].map(([each, meant]) => `${each}  ${meant}`).join("\n");
+        if (name === undefined) return this.#note(listed || "there are no short names: alias NAME LINE makes one");
+        if (line === "") return this.#note(all.has(name) ? `${name}  ${all.get(name)}` : `${name} stands for nothing`);
+        const isCommand = OWN.has(name) || SHORT.has(name) || commandsOf(await this.#engine.ask("commands")).has(name);
+        if (isCommand) return this.#refuse("alias", `${name} is a command`);
+        if (!NAME.test(name)) return this.#refuse("alias", "a name has small letters, digits and hyphens, and begins with a letter");
+        await this.#withFile("the file of short names", () => {
+            this.#aliases.set(name, line);
+            this.#note(`${name} stands for ${line}`);
+        });
+    }
+
+    async #unalias(name) {
+        if (name === undefined) return this.#refuse("unalias", "a name is missing");
+        await this.#withFile("the file of short names", () => {
+            if (!this.#aliases.forget(name)) this.#note(`${name} stands for nothing`);
+        });
+    }
+}
+
+const TAKEN = "it was taken back, and the machine is as it was before it";
+
+/** A saved session in a few words: when it was kept, by this computer's clock, its lines, and whether a source is open in it. */
+function told({ when, lines, source }) {
+    const open = source === null ? "" : `, lines of an open source: ${source.lines.length}`;
+    return `${when.toLocaleString("sv-SE").slice(0, 16)}, by this computer's clock, lines: ${lines.length}${open}`;
+}
