@@ -1,18 +1,21 @@
 #!/usr/bin/env node
-// The words of the source language in the grammars of editors, that of the page among them. They are those of the monitor's `operations-data`.
+// @ts-check
+// The words of the source language in the grammars of editors, that of the page among them. They are those of the monitor's
+// `operations-data`.
 //
 //     node editors/grammars.mjs            fails where a grammar has other words
 //     node editors/grammars.mjs --write    writes them
 import { readFileSync, writeFileSync } from "node:fs";
 import { Laboratory } from "./language/laboratory.mjs";
 import { bytes } from "./module.mjs";
-import { Session } from "../page/module/session.mjs";
+import { Session } from "../libraries/javascript/session.mjs";
 
 const MADE = ["the words below are written by editors/grammars.mjs", "the words above are written by editors/grammars.mjs"];
 
-const { operations } = new Laboratory(() => new Session(bytes));
+const laboratory = new Laboratory(() => new Session(bytes));
+const { operations } = laboratory;
 /** The operations that may have the name of a label after them, and the others; longer ones first, since one may begin as another does. */
-const takesName = (name) => /label/i.test(operations.get(name).get("operands"));
+const takesName = (name) => laboratory.takesName(name);
 const sorted = [...operations.keys()].sort((one, other) => other.length - one.length || (one < other ? -1 : 1));
 const [named, others] = [sorted.filter(takesName), sorted.filter((name) => !takesName(name))];
 
@@ -22,9 +25,16 @@ const listed = (words) => words.map((word) => `"${word}"`).join(" ");
 /** What each grammar has between the two lines that say so. */
 const WORDS = {
     "vim/syntax/lgp30.vim": `let s:named = '\\%(${named.join("\\|")}\\)'\nlet s:others = '\\%(${others.join("\\|")}\\)'`,
-    "emacs/lgp-mode.el": `(defconst lgp-named '(${listed(named)})\n  "Operations that may have the name of a label after them.")\n(defconst lgp-others '(${listed(others)})\n  "Operations that have a number after them.")`,
+    "emacs/lgp-mode.el": [
+        `(defconst lgp-named '(${listed(named)})`, '  "Operations that may have the name of a label after them.")',
+        `(defconst lgp-others '(${listed(others)})`, '  "Operations that have a number after them.")',
+    ].join("\n"),
     "pygments/lgp30.py": `NAMED = (${quoted(named)})\nOTHERS = (${quoted(others)})`,
-    "../page/language.mjs": `/** The operations that are no letter of an order; and those of whose operands none is a name. */\nexport const OTHERS = [${quoted([...operations.keys()].filter((name) => name.length > 1))}];\nconst WITHOUT_NAMES = new Set([${quoted([...operations.keys()].filter((name) => !takesName(name)))}]);`,
+    "../page/language.mjs": [
+        "/** The operations that are no letter of an order; and those of whose operands none is a name. */",
+        `export const OTHERS = [${quoted([...operations.keys()].filter((name) => name.length > 1))}];`,
+        `const WITHOUT_NAMES = new Set([${quoted([...operations.keys()].filter((name) => !takesName(name)))}]);`,
+    ].join("\n"),
     "highlight/lgp30.js": `    const named = [${quoted(named)}];\n    const others = [${quoted(others)}];`,
 };
 
@@ -53,7 +63,11 @@ function withWords(text, words) {
     return text.slice(0, from) + words + text.slice(text.lastIndexOf("\n", below));
 }
 
-const made = { "vscode/lgp30.tmLanguage.json": () => `${JSON.stringify(textMate, null, 4)}\n`, ...Object.fromEntries(Object.entries(WORDS).map(([file, words]) => [file, (text) => withWords(text, words)])) };
+/** @type {Record<string, (text: string) => string>} */
+const made = {
+    "vscode/lgp30.tmLanguage.json": () => `${JSON.stringify(textMate, null, 4)}\n`,
+    ...Object.fromEntries(Object.entries(WORDS).map(([file, words]) => [file, (text) => withWords(text, words)]))
+};
 
 for (const [file, make] of Object.entries(made)) {
     const path = new URL(file, import.meta.url);

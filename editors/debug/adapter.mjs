@@ -1,25 +1,53 @@
-// A debug adapter: it takes the messages of the Debug Adapter Protocol, and gives those that answer them. All that is known of the machine is asked of the monitor.
-import { wordsOf } from "../../page/module/lines.mjs";
-import { NoMemory } from "../../page/module/session.mjs";
+// @ts-check
+// A debug adapter: it takes the messages of the Debug Adapter Protocol, and gives those that answer them. All that is known of the machine
+// is asked of the monitor.
+import { NoMemory } from "../../libraries/javascript/session.mjs";
+import { Misshapen } from "../shapes.mjs";
+import { Breakpoints, ofAddress, ofLabel, ofLine, ofWord } from "./breakpoints.mjs";
 import { Machine, Refused } from "./machine.mjs";
-import { Memory, addressAt } from "./memory.mjs";
+import { Memory, partsOf } from "./memory.mjs";
 import { Printing } from "./printing.mjs";
 import { Program } from "./program.mjs";
+import { Prompt } from "./prompt.mjs";
+import { ARGUMENTS } from "./requests.mjs";
 import { Rules } from "./rules.mjs";
 import { Runner } from "./runner.mjs";
+import { Typewriter } from "./typewriter.mjs";
 import { Variables } from "./variables.mjs";
 
 const THREAD = 1;
+/** The filter by which an overflow is a stop. */
+const OVERFLOW = "overflow";
+/** How many sources of a stop there can be: one for each track. */
+const TRACKS = 64;
 const CAPABILITIES = {
-    supportsConfigurationDoneRequest: true, supportsFunctionBreakpoints: true, supportsHitConditionalBreakpoints: true, supportsLogPoints: true,
-    supportsDataBreakpoints: true, supportsInstructionBreakpoints: true, supportsStepBack: true, supportsSetVariable: true, supportsSetExpression: true,
+    supportsConfigurationDoneRequest: true, supportsFunctionBreakpoints: true, supportsConditionalBreakpoints: true,
+    supportsHitConditionalBreakpoints: true, supportsLogPoints: true,
+    supportsDataBreakpoints: true, supportsInstructionBreakpoints: true, supportsStepBack: true, supportsSetVariable: true,
+    supportsSetExpression: true,
     supportsRestartRequest: true, supportsGotoTargetsRequest: true, supportsReadMemoryRequest: true, supportsWriteMemoryRequest: true,
-    supportsDisassembleRequest: true, supportsEvaluateForHovers: true, supportsTerminateRequest: true, supportsBreakpointLocationsRequest: true,
-    supportsSteppingGranularity: true, supportsExceptionInfoRequest: true,
+    supportsDisassembleRequest: true, supportsEvaluateForHovers: true, supportsTerminateRequest: true,
+    supportsBreakpointLocationsRequest: true,
+    supportsSteppingGranularity: true, supportsExceptionInfoRequest: true, supportsCompletionsRequest: true, supportsCancelRequest: true,
+    exceptionBreakpointFilters: [
+        {
+            filter: OVERFLOW, label: "Overflow", default: true,
+            description: "Stop where an overflow halts the machine; without it the machine is started again",
+        }
+    ],
 };
 /** What may be asked while the machine runs; all else asks for a machine that stands still. */
-const TAKEN_WHILE_RUNNING = new Set(["pause", "threads", "disconnect", "terminate", "restart", "evaluate", "setBreakpoints", "setFunctionBreakpoints", "setDataBreakpoints", "setInstructionBreakpoints", "setExceptionBreakpoints", "breakpointLocations", "dataBreakpointInfo"]);
-const TAKEN_BEFORE = new Set(["initialize", "disconnect"]);
+const TAKEN_WHILE_RUNNING = new Set([
+    "pause", "threads", "disconnect", "terminate", "restart", "evaluate", "completions", "cancel", "setBreakpoints",
+    "setFunctionBreakpoints", "setDataBreakpoints", "setInstructionBreakpoints",
+    "setExceptionBreakpoints", "breakpointLocations", "dataBreakpointInfo"]);
+/** What ends a long run of the console. */
+const INTERRUPTS = new Set(["pause", "cancel", "disconnect", "terminate", "restart"]);
+const TAKEN_BEFORE = new Set(["initialize", "disconnect", "cancel"]);
+/** What is done where no program is in the machine. */
+const NEEDS_NONE = new Set([
+    "initialize", "launch", "attach", "restart", "disconnect", "terminate", "threads", "setExceptionBreakpoints", "cancel",
+]);
 
 const nameOf = (path) => path.split(/[\\/]/).at(-1);
 
@@ -27,35 +55,71 @@ export class DebugAdapter {
     #openSession;
     #send;
     #options;
+    #typewriter;
     #sequence = 1;
+    /** @type {any} what the client counts from, and what it takes */
     #client = null;
+    /** @type {import("../types/debug.js").Launch | null} */
     #launch = null;
+    /** @type {any} the machine of the program that is launched, or null */
     #machine = null;
+    /** @type {any} that program */
     #program = null;
+    /** @type {Rules} */
     #rules;
+    /** @type {Runner} */
     #runner;
+    /** @type {Variables} */
     #variables;
+    /** @type {Memory} */
     #memory;
+    /** @type {Printing} */
     #printing;
+    #prompt;
+    #breakpoints = new Breakpoints();
+    #stopsAtOverflow = true;
     #reason = { sentence: "" };
-    /** The breakpoints as the client wants them, so that they are set again where the program is restarted. */
-    #wanted = new Map();
-    #nextId = 1;
+    #stops = 0;
+    /** @type {(() => unknown)[]} */
     #after = [];
     #tail = Promise.resolve();
-    #typedSource = null;
+    /** @type {Promise<unknown> | null} */
     #running = null;
+    /** How many messages were taken, and which of them last wanted a long run of the console to end. */
+    #taken = 0;
+    #interruptedAt = 0;
+    #waiting = new Set();
+    #cancelled = new Set();
+    #requests = this.#table();
 
-    /** An adapter over what opens a session; `send` is given its messages. Options: `readFile` gives the bytes of a file, `resolve` its whole path, `consoleOver` types lines that may name files, and `shelf` keeps what was done. */
+    /**
+     * An adapter over what opens a session; `send` is given its messages. Options: `readFile` gives the bytes of a file, `resolve` a whole
+     * path, found beside another file if one is given,
+     * `identityOf` what is the same of all paths of a file, `consoleOver` types lines that may name files, `fileNames` gives names that
+     * begin so, and `shelf` keeps what was done.
+     * @param {() => import("../../libraries/javascript/session.mjs").Session} openSession
+     * @param {(message: object) => void} send
+     * @param {import("../types/debug.js").Options} options
+     */
     constructor(openSession, send, options) {
         this.#openSession = openSession;
         this.#send = send;
         this.#options = options;
+        this.#typewriter = new Typewriter(openSession);
+        this.#prompt = new Prompt(() => ({ machine: this.#machine, variables: this.#variables }), options);
     }
 
-    /** Takes a message. What it asks for is done when all before it is. */
+    /**
+     * Takes a message. What it asks for is done when all before it is; a long run in the console ends where a later message wants a pause,
+     * or takes it back.
+     */
     take(message) {
-        this.#tail = this.#tail.then(() => this.#answer(message));
+        const order = ++this.#taken;
+        if (INTERRUPTS.has(message?.command)) this.#interruptedAt = order;
+        const { requestId } = (message?.command === "cancel" ? message.arguments : null) ?? {};
+        if (this.#waiting.has(requestId)) this.#cancelled.add(requestId);
+        if (typeof message?.seq === "number") this.#waiting.add(message.seq);
+        this.#tail = this.#tail.then(() => this.#answer(message, order));
         return this.#tail;
     }
 
@@ -64,26 +128,43 @@ export class DebugAdapter {
         this.#event("output", { category: "important", output: `${why}\n` });
     }
 
+    /** Keeps what was done. */
+    keep() {
+        if (this.#machine !== null) this.#options.shelf?.keepSession(this.#machine.transcript());
+    }
+
     /** No more messages come. */
     end() {
         this.#runner?.pause();
+        this.keep();
         this.#options.ended?.();
     }
 
+    /**
+     * @template {keyof import("../types/debug.js").Events} Name
+     * @param {Name} event
+     * @param {import("../types/debug.js").Events[Name]} [body]
+     */
     #event(event, body) {
         this.#send({ seq: this.#sequence++, type: "event", event, ...(body === undefined ? {} : { body }) });
     }
 
-    async #answer(request) {
+    async #answer(request, order) {
         const { seq, type, command, arguments: given } = request ?? {};
-        if (type !== "request" || typeof seq !== "number" || typeof command !== "string") return this.refuse("a message is no request: it wants seq, type and command");
+        const isRequest = type === "request" && typeof seq === "number" && typeof command === "string";
+        if (!isRequest) return this.refuse("a message is no request: it wants seq, type and command");
         const response = { type: "response", request_seq: seq, command };
+        this.#waiting.delete(seq);
         try {
-            const body = await this.#bodyFor(command, given ?? {});
+            if (this.#cancelled.delete(seq)) throw new Refused("cancelled");
+            const body = await this.#bodyFor(command, given ?? {}, order);
             this.#send({ seq: this.#sequence++, ...response, success: true, ...(body === undefined ? {} : { body }) });
         } catch (failure) {
             const message = this.#toldOf(failure);
-            this.#send({ seq: this.#sequence++, ...response, success: false, message, body: { error: { id: 1, format: "{message}", variables: { message }, showUser: true } } });
+            this.#send({
+                seq: this.#sequence++, ...response, success: false, message,
+                body: { error: { id: 1, format: "{message}", variables: { message }, showUser: true } },
+            });
         }
         this.#settle();
     }
@@ -100,178 +181,212 @@ export class DebugAdapter {
     /** What is said of a failure. A laboratory whose memory has run out is closed; a restart opens another one. */
     #toldOf(failure) {
         if (failure instanceof Refused) return failure.message;
-        if (failure instanceof NoMemory) this.#leave();
-        return `${failure.constructor.name}: ${failure.message}`;
+        if (!(failure instanceof NoMemory)) return `an error of the debug adapter itself: ${failure.message}`;
+        const printed = this.#printing?.count ?? 0;
+        this.#leave();
+        const kept = "what was done is kept, and restart begins anew";
+        return `the laboratory's memory is used up after ${printed} printed codes: ${failure.message}; ${kept}`;
     }
 
+    /** Ends the session of the machine, and keeps what was done. */
     #leave() {
+        this.keep();
         this.#after.push(() => this.#event("terminated"));
         this.#machine = null;
     }
 
-    #bodyFor(command, given) {
-        const work = Object.hasOwn(REQUESTS, command) ? REQUESTS[command] : null;
-        if (work === null) throw new Refused(`there is no request ${command} here`);
+    #bodyFor(command, given, order) {
+        if (!Object.hasOwn(this.#requests, command)) throw new Refused(`there is no request ${command} here`);
         if (this.#client === null && !TAKEN_BEFORE.has(command)) throw new Refused(`${command} came before initialize`);
         if (this.#machine === null && !NEEDS_NONE.has(command)) throw new Refused(`${command} wants a program: launch comes first`);
-        if (this.#runner?.isRunning && !TAKEN_WHILE_RUNNING.has(command)) throw new Refused(`${command} wants a machine at rest: pause stops it`);
-        return work.call(this, given);
+        const isTooEarly = this.#runner?.isRunning && !TAKEN_WHILE_RUNNING.has(command);
+        if (isTooEarly) throw new Refused(`${command} wants a machine at rest: pause stops it`);
+        return this.#requests[command](this.#checked(command, given), order);
     }
 
-    static sessionRequests() {
+    /** The arguments of a request, which have what they are to have. */
+    #checked(command, given) {
+        try {
+            return ARGUMENTS[command](given, "");
+        } catch (failure) {
+            throw failure instanceof Misshapen ? new Refused(`${command}: ${failure.message}`) : failure;
+        }
+    }
+
+    /**
+     * What is done for each request.
+     * @returns {import("../types/debug.js").Requests}
+     */
+    #table() {
+        return { ...this.#life(), ...this.#looks(), ...this.#changes(), ...this.#points(), ...this.#moves() };
+    }
+
+    /**
+     * @returns {Pick<import("../types/debug.js").Requests, "initialize" | "launch" | "attach" | "configurationDone" | "restart" |
+     * "disconnect" | "terminate" | "cancel">}
+     */
+    #life() {
         return {
-            initialize(given) {
-                this.#client = { linesFrom: given.linesStartAt1 === false ? 0 : 1, takesInvalidated: given.supportsInvalidatedEvent === true };
+            initialize: (given) => {
+                this.#client = {
+                    linesFrom: given.linesStartAt1 === false ? 0 : 1, columnsFrom: given.columnsStartAt1 === false ? 0 : 1,
+                    takesInvalidated: given.supportsInvalidatedEvent === true, takesMemory: given.supportsMemoryEvent === true,
+                };
                 return CAPABILITIES;
             },
-            async launch(given) {
+            launch: async (given) => {
                 await this.#begin(given);
                 const trouble = this.#options.shelf?.trouble ?? null;
                 if (trouble !== null) this.refuse(`nothing of this session is kept: ${trouble}`);
                 this.#after.push(() => this.#event("initialized"));
             },
-            attach() {
-                throw new Refused("there is no machine to attach to: launch opens one");
-            },
-            configurationDone() {
-                this.#after.push(() => this.#enter());
-            },
-            async restart({ arguments: again = this.#launch }) {
-                if (again === null) throw new Refused("restart wants a program: launch comes first");
-                this.#runner?.pause();
-                await this.#running;
-                await this.#begin(again);
-                this.#after.push(() => this.#enter(), () => this.#runner.isRunning && this.#event("continued", { threadId: THREAD, allThreadsContinued: true }));
-            },
-            disconnect() {
-                this.#after.push(() => this.end());
-            },
-            terminate() {
+            attach: () => { throw new Refused("there is no machine to attach to: launch opens one"); },
+            configurationDone: () => { this.#after.push(() => this.#enter()); },
+            restart: ({ arguments: again = this.#launch }) => this.#restart(again),
+            disconnect: () => { this.#after.push(() => this.end()); },
+            terminate: () => {
                 this.#runner?.pause();
                 this.#leave();
             },
+            cancel: () => undefined,
         };
     }
 
-    static lookRequests() {
+    async #restart(again) {
+        if (again === null) throw new Refused("restart wants a program: launch comes first");
+        this.#runner?.pause();
+        await this.#running;
+        await this.#begin(again);
+        const tellOfRun = () => this.#runner.isRunning && this.#event("continued", { threadId: THREAD, allThreadsContinued: true });
+        this.#after.push(() => this.#enter(), tellOfRun);
+    }
+
+    /**
+     * @returns {Pick<import("../types/debug.js").Requests, "threads" | "stackTrace" | "scopes" | "variables" | "evaluate" | "completions" |
+     * "exceptionInfo" | "readMemory" | "disassemble" | "source">}
+     */
+    #looks() {
         return {
             threads: () => ({ threads: [{ id: THREAD, name: "LGP-30" }] }),
-            stackTrace() {
-                return { stackFrames: [this.#frame()], totalFrames: 1 };
-            },
-            scopes() {
-                return { scopes: this.#variables.scopes() };
-            },
-            variables({ variablesReference }) {
-                return { variables: this.#variables.variables(variablesReference) };
-            },
-            setVariable({ variablesReference, name, value }) {
-                return this.#changed(() => ({ value: this.#variables.set(variablesReference, name, value) }));
-            },
-            setExpression({ expression, value }) {
-                return this.#changed(() => ({ value: this.#variables.setNamed(expression.trim(), value) }));
-            },
-            evaluate(given) {
-                return given.context === "repl" ? this.#typed(given.expression) : this.#evaluated(given);
-            },
-            exceptionInfo() {
-                return { exceptionId: this.#machine.state().get("status"), description: this.#reason.sentence, breakMode: "always" };
-            },
-            readMemory(given) {
-                return this.#memory.read(given);
-            },
-            writeMemory(given) {
-                return this.#changed(() => this.#memory.write(given));
-            },
-            disassemble(given) {
-                return { instructions: this.#memory.disassembled(given, (address) => this.#locationOf(address)) };
-            },
+            stackTrace: () => ({ stackFrames: [this.#frame()], totalFrames: 1 }),
+            scopes: () => ({ scopes: this.#variables.scopes() }),
+            variables: ({ variablesReference }) => ({ variables: this.#variables.variables(variablesReference) }),
+            evaluate: (given, order) => (given.context === "repl" ? this.#typed(given.expression, order) : this.#evaluated(given)),
+            completions: (given) => this.#completions(given),
+            exceptionInfo: () => ({
+                exceptionId: this.#machine.state().get("status"), description: this.#reason.sentence, breakMode: "always",
+            }),
+            readMemory: (given) => this.#memory.read(given),
+            disassemble: (given) => ({ instructions: this.#memory.disassembled(given, (address) => this.#locationOf(address)) }),
+            source: ({ sourceReference }) => ({ content: this.#memory.track((sourceReference - 1) % TRACKS) }),
         };
     }
 
-    /** What is done for each request. */
-    static requests() {
-        return { ...this.sessionRequests(), ...this.lookRequests(), ...this.breakpointRequests(), ...this.moveRequests() };
+    /** @returns {Pick<import("../types/debug.js").Requests, "setVariable" | "setExpression" | "writeMemory">} */
+    #changes() {
+        return {
+            setVariable: ({ variablesReference: scope, name, value }) => (
+                this.#changed(() => ({ value: this.#variables.set(scope, name, value) }))),
+            setExpression: ({ expression, value }) => this.#changed(() => ({ value: this.#variables.setNamed(expression.trim(), value) })),
+            writeMemory: (given) => this.#changed(() => this.#memory.write(given)),
+        };
     }
 
-    static breakpointRequests() {
+    /**
+     * @returns {Pick<import("../types/debug.js").Requests, "setBreakpoints" | "setFunctionBreakpoints" | "setInstructionBreakpoints" |
+     * "setDataBreakpoints" | "setExceptionBreakpoints" | "dataBreakpointInfo" | "breakpointLocations">}
+     */
+    #points() {
         return {
-            setBreakpoints({ source, breakpoints = [] }) {
-                return this.#want(`source ${source.path}`, breakpoints, (it) => this.#ofLine(source.path, it));
+            setBreakpoints: async ({ source, breakpoints = [] }) => {
+                const identity = source.path === undefined ? null : await this.#identityOf(source.path);
+                return this.#want(`source ${identity}`, breakpoints, (session, it) => ofLine(session, identity, it));
             },
-            setFunctionBreakpoints({ breakpoints }) {
-                return this.#want("function", breakpoints, (it) => ({ ...it, ...this.#addressed(it.name) }));
+            setFunctionBreakpoints: ({ breakpoints }) => this.#want("function", breakpoints, ofLabel),
+            setInstructionBreakpoints: ({ breakpoints }) => this.#want("instruction", breakpoints, ofAddress),
+            setDataBreakpoints: ({ breakpoints }) => this.#want("data", breakpoints, ofWord),
+            setExceptionBreakpoints: ({ filters }) => {
+                this.#stopsAtOverflow = filters.includes(OVERFLOW);
+                if (this.#runner !== undefined) this.#runner.stopsAtOverflow = this.#stopsAtOverflow;
+                const unknown = (filter) => ({ verified: false, message: `there is no filter ${filter} here` });
+                return { breakpoints: filters.map((filter) => (filter === OVERFLOW ? { verified: true } : unknown(filter))) };
             },
-            setInstructionBreakpoints({ breakpoints }) {
-                return this.#want("instruction", breakpoints, (it) => ({ ...it, ...this.#addressed(addressAt(it.instructionReference, it.offset)) }));
+            dataBreakpointInfo: ({ variablesReference = 0, name }) => {
+                const address = this.#variables.addressOf(variablesReference, name);
+                return address === null
+                    ? { dataId: null, description: `${name} is no word of the drum` }
+                    : { dataId: address, description: `the word at ${address}`, accessTypes: ["write"] };
             },
-            setDataBreakpoints({ breakpoints }) {
-                return this.#want("data", breakpoints, (it) => ({ ...it, kind: "watch", ...this.#addressed(it.dataId) }));
-            },
-            setExceptionBreakpoints: () => undefined,
-            dataBreakpointInfo({ variablesReference = 0, name }) {
-                const address = this.#variables.addressOf(variablesReference, name) ?? this.#addressed(name).address ?? null;
-                return address === null ? { dataId: null, description: `${name} is no word of the drum` } : { dataId: address, description: `the word at ${address}`, accessTypes: ["write"] };
-            },
-            breakpointLocations({ line, endLine = line }) {
+            breakpointLocations: ({ line, endLine = line }) => {
                 const isAmong = (it) => it.line >= this.#lineIn(line) && it.line <= this.#lineIn(endLine);
                 return { breakpoints: this.#program.source.words.filter(isAmong).map((it) => ({ line: this.#lineOut(it.line) })) };
             },
         };
     }
 
-    static moveRequests() {
+    /**
+     * @returns {Pick<import("../types/debug.js").Requests, "continue" | "next" | "stepIn" | "stepOut" | "stepBack" | "reverseContinue" |
+     * "pause" | "gotoTargets" | "goto">}
+     */
+    #moves() {
+        const stopping = (/** @type {import("../types/debug.js").Stop} */ stop) => { this.#after.push(() => this.#stop(stop)); };
         return {
-            continue() {
+            continue: () => {
                 this.#after.push(() => this.#goOn());
                 return { allThreadsContinued: true };
             },
-            next() {
-                this.#step();
-            },
-            stepIn() {
-                this.#step();
-            },
-            stepOut() {
+            next: () => stopping(this.#runner.step()),
+            stepIn: () => stopping(this.#runner.step()),
+            stepOut: () => {
                 throw new Refused("this machine has no calls to step out of: set a breakpoint where the routine returns to");
             },
-            stepBack() {
-                this.#machine.back(1);
-                this.#after.push(() => this.#stop({ reason: "step" }));
+            stepBack: () => stopping(this.#runner.stepBack()),
+            reverseContinue: () => stopping(this.#runner.runBack()),
+            pause: () => this.#runner.pause(),
+            gotoTargets: async ({ source, line }) => {
+                const isOwn = source.path !== undefined && await this.#identityOf(source.path) === this.#program.identity;
+                const target = isOwn ? this.#program.placedFrom(this.#lineIn(line)) : null;
+                if (target === null) return { targets: [] };
+                const { place, line: found } = target;
+                return { targets: [{ id: Number(place), label: place, line: this.#lineOut(found), instructionPointerReference: place }] };
             },
-            reverseContinue() {
-                const stop = this.#runner.runBack();
-                this.#after.push(() => this.#stop(stop));
-            },
-            pause() {
-                this.#runner.pause();
-            },
-            gotoTargets({ source, line }) {
-                const target = source.path === this.#program.path ? this.#program.placedFrom(this.#lineIn(line)) : null;
-                return { targets: target === null ? [] : [{ id: Number(target.place), label: target.place, line: this.#lineOut(target.line), instructionPointerReference: target.place }] };
-            },
-            goto({ targetId }) {
+            goto: ({ targetId }) => {
                 this.#machine.goTo(String(targetId).padStart(4, "0"));
-                this.#after.push(() => this.#stop({ reason: "goto" }));
+                stopping({ reason: "goto", what: "a jump to {}" });
             },
         };
     }
 
+    #identityOf(path) {
+        return this.#options.identityOf?.(path) ?? path;
+    }
+
     /** Brings the program of a launch into a new laboratory, with the breakpoints that are wanted. */
     async #begin(launch) {
+        this.keep();
         this.#options.shelf?.putSessionAway();
         const machine = new Machine(this.#openSession, this.#options.consoleOver);
         const program = await Program.broughtInto(machine, launch, this.#options);
         [this.#launch, this.#machine, this.#program] = [launch, machine, program];
-        [this.#rules, this.#variables, this.#memory] = [new Rules(machine), new Variables(machine), new Memory(machine)];
-        this.#printing = new Printing(machine, (output) => this.#event("output", { category: "stdout", output }));
+        [this.#rules, this.#variables, this.#memory] = [new Rules(machine, program), new Variables(machine), new Memory(machine)];
+        this.#printing = new Printing(machine, this.#typewriter, (output) => this.#event("output", { category: "stdout", output }));
         this.#runner = new Runner(machine, this.#rules, this.#printing, (message) => this.#log(message), launch.operate === true);
-        for (const group of this.#wanted.keys()) for (const breakpoint of this.#set(group).breakpoints) this.#after.push(() => this.#event("breakpoint", { reason: "changed", breakpoint }));
+        this.#runner.stopsAtOverflow = this.#stopsAtOverflow;
+        const breakpoints = this.#breakpoints.groups.flatMap((group) => this.#breakpoints.set(group, this.#session));
+        for (const breakpoint of breakpoints) this.#after.push(() => this.#event("breakpoint", { reason: "changed", breakpoint }));
+    }
+
+    /** What breakpoints are set in. */
+    get #session() {
+        return {
+            launch: this.#launch, machine: this.#machine, program: this.#program, rules: this.#rules, lineIn: (line) => this.#lineIn(line),
+            lineOut: (line) => this.#lineOut(line),
+        };
     }
 
     /** Begins where the program does. */
     #enter() {
-        if (this.#launch.stopOnEntry === true) this.#stop({ reason: "entry" });
+        if (this.#launch?.stopOnEntry === true) this.#stop({ reason: "entry", what: "before the first order, at {}" });
         else this.#goOn(true);
     }
 
@@ -279,7 +394,8 @@ export class DebugAdapter {
     #goOn(isEntering = false) {
         const machine = this.#machine;
         const isOver = () => machine !== this.#machine;
-        this.#running = this.#runner.run(isEntering).then((stop) => isOver() || this.#stop(stop)).catch((failure) => isOver() || this.#broken(failure));
+        const stopped = (stop) => isOver() || this.#stop(stop);
+        this.#running = this.#runner.run(isEntering).then(stopped).catch((failure) => isOver() || this.#broken(failure));
     }
 
     /** Tells of what went wrong where no request is to be answered. */
@@ -290,59 +406,50 @@ export class DebugAdapter {
         this.#settle();
     }
 
-    #step() {
-        const stop = this.#runner.step();
-        this.#after.push(() => this.#stop(stop));
-    }
-
-    /** Tells of a stop, with the monitor's sentence. What is said of a word besides is written too, since few clients show it. */
-    #stop({ reason, sentence, points = [], text }) {
+    /**
+     * Tells of a stop: with the monitor's sentence, or what it is and where. What is said of a word besides is written too, since few
+     * clients show it.
+     * @param {import("../types/debug.js").Stop} stop
+     */
+    #stop({ reason, what = "a stop at {}", sentence, points = [], text }) {
         this.#printing.show();
         if (text !== undefined) this.#event("output", { category: "console", output: `${sentence}\nbefore that: ${text}\n` });
-        this.#keep();
-        this.#reason = { sentence: sentence ?? this.#machine.state().get("state-sentence") };
+        this.keep();
+        this.#stops += 1;
+        this.#reason = { sentence: sentence ?? what.replace("{}", this.#place()) };
         const ids = points.map(({ id }) => id);
-        this.#event("stopped", { reason, description: this.#reason.sentence, ...(text === undefined ? {} : { text }), threadId: THREAD, allThreadsStopped: true, ...(ids.length > 0 ? { hitBreakpointIds: ids } : {}) });
+        this.#event(
+            "stopped",
+            {
+                reason, description: this.#reason.sentence, ...(text === undefined ? {} : { text }), threadId: THREAD,
+                allThreadsStopped: true, ...(ids.length > 0 ? { hitBreakpointIds: ids } : {})
+            }
+        );
     }
 
-    #keep() {
-        this.#options.shelf?.keepSession(this.#machine.transcript());
+    /** Where the machine is: the counter, and the label there. */
+    #place() {
+        const state = this.#machine.state();
+        return [state.get("counter"), state.get("counter-label")].filter((it) => it !== undefined).join(" ");
     }
 
     /** Does what changes the machine, and keeps it. */
     #changed(work) {
         const body = work();
-        this.#keep();
+        this.keep();
+        this.#after.push(() => this.#drumChanged());
         return body;
     }
 
-    /** Keeps the breakpoints that are wanted of a kind, each with a number that it has for good, and sets them. `placed` says where one is. */
+    /** Tells clients that show memory to read it again. */
+    #drumChanged() {
+        if (this.#client.takesMemory) this.#event("memory", { memoryReference: "0000", offset: 0, count: Memory.BYTES });
+    }
+
+    /** Keeps the breakpoints that are wanted of a kind, and sets them. */
     #want(group, breakpoints, placed) {
-        const numbered = breakpoints.map((breakpoint) => ({ ...breakpoint, id: this.#nextId++ }));
-        this.#wanted.set(group, () => numbered.map(placed));
-        return this.#set(group);
-    }
-
-    #set(group) {
-        const wanted = this.#wanted.get(group)();
-        if (this.#launch.noDebug === true) return { breakpoints: wanted.map(({ id }) => ({ id, verified: false, message: "this run has no debugger" })) };
-        return { breakpoints: this.#rules.set(group, wanted).map((point) => point.told(point.line === undefined ? {} : { line: this.#lineOut(point.line) })) };
-    }
-
-    /** The point that a line asks for: it is at the next line that makes a word. */
-    #ofLine(path, breakpoint) {
-        if (path !== this.#program.path) return { ...breakpoint, message: `the program is ${this.#program.path}` };
-        const placed = this.#program.placedFrom(this.#lineIn(breakpoint.line));
-        return placed === null ? { ...breakpoint, message: "no line from here on makes a word" } : { ...breakpoint, line: placed.line, address: placed.place };
-    }
-
-    #addressed(name) {
-        try {
-            return { address: this.#machine.word(name.trim()).get("address") };
-        } catch (refusal) {
-            if (!(refusal instanceof Refused)) throw refusal;
-            return { message: refusal.message };
-        }
+        this.#breakpoints.want(group, breakpoints, placed);
+        return { breakpoints: this.#breakpoints.set(group, this.#session) };
     }
 
     #lineIn(line) {
@@ -359,17 +466,33 @@ export class DebugAdapter {
         return line === null ? {} : { location: { name: nameOf(this.#program.path), path: this.#program.path }, line: this.#lineOut(line) };
     }
 
+    /** Where the machine is. A place that no line has is shown in its track, as that is at this stop. */
     #frame() {
         const counter = this.#machine.state().get("counter");
         const [word] = this.#machine.words(counter);
-        const { location: source, line = 0 } = this.#locationOf(counter);
+        const { track, sector } = partsOf(counter);
+        const drum = { name: `track ${counter.slice(0, 2)}`, sourceReference: TRACKS * this.#stops + track + 1 };
+        const { location: source = drum, line = this.#lineOut(sector + 1) } = this.#locationOf(counter);
         const name = [counter, word.get("label"), word.get("order") ?? word.get("digits")].filter((it) => it !== undefined).join("  ");
-        return { id: 1, name, line, column: line === 0 ? 0 : this.#client.linesFrom, instructionPointerReference: counter, ...(source === undefined ? { presentationHint: "subtle" } : { source }) };
+        return { id: 1, name, line, column: this.#client.columnsFrom, instructionPointerReference: counter, source };
     }
 
+    /** @param {import("@vscode/debugprotocol").DebugProtocol.EvaluateArguments} given */
     #evaluated({ expression, context }) {
-        const { value: result, ...variable } = this.#variables.evaluated(expression.trim(), context !== "hover");
-        return { result, variablesReference: variable.variablesReference, ...(variable.memoryReference === undefined ? {} : { memoryReference: variable.memoryReference }) };
+        const { value: result, variablesReference, memoryReference } = this.#variables.evaluated(expression.trim(), context !== "hover");
+        return { result, variablesReference, ...(memoryReference === undefined ? {} : { memoryReference }) };
+    }
+
+    async #completions({ text, column, line = this.#client.linesFrom }) {
+        const lines = text.split("\n");
+        const at = Math.max(0, column - this.#client.columnsFrom);
+        const before = (lines[line - this.#client.linesFrom] ?? "").slice(0, at);
+        const words = await this.#prompt.completed(before);
+        return {
+            targets: words.map(({ word, begun }) => (
+                { label: word.trim(), text: word, start: before.length - begun + this.#client.columnsFrom, length: begun }
+            ))
+        };
     }
 
     /** Writes what a logpoint says: between braces is what is evaluated. */
@@ -384,36 +507,13 @@ export class DebugAdapter {
         this.#event("output", { category: "console", output: `${output}\n` });
     }
 
-    /** The replies to lines that were typed in the console. Those of a source wait until it is whole. */
-    async #typed(expression) {
-        const lines = expression.replace(/\n$/, "").split("\n");
-        let result = "";
-        for (const line of lines) result += await this.#typedLine(line);
-        return { result: result.trimEnd(), variablesReference: 0 };
-    }
-
-    async #typedLine(line) {
-        if (this.#typedSource !== null || line.trim() === "source") return this.#sourceLine(line);
-        const asks = this.#machine.isQuestion(line);
-        if (asks === undefined && wordsOf(line).length === 1) return `${this.#variables.evaluated(line.trim(), false).value}\n`;
-        if (this.#runner.isRunning && !asks) throw new Refused(`${line}: the machine runs, and only lines that ask are taken: pause stops it`);
-        const reply = await this.#machine.types(line);
-        if (!asks) this.#typedInto(line);
-        if (reply.startsWith("?")) throw new Refused(reply.trimEnd());
-        return reply;
-    }
-
-    async #sourceLine(line) {
-        this.#typedSource = [...this.#typedSource ?? [], line];
-        this.#options.shelf?.keepSource(this.#typedSource.slice(1));
-        if (line !== "." || this.#typedSource.length === 1) return "";
-        const lines = this.#typedSource;
-        this.#typedSource = null;
-        let reply = "";
-        for (const each of lines) reply += await this.#machine.types(each);
-        this.#options.shelf?.dropSource();
-        this.#typedInto(lines[0]);
-        return reply;
+    /** The replies to lines that were typed in the console. */
+    async #typed(expression, order) {
+        const machine = this.#machine;
+        const isInterrupted = () => this.#interruptedAt > order;
+        const changed = (line) => machine === this.#machine && this.#typedInto(line);
+        const result = await this.#prompt.typed(expression, () => this.#runner.isRunning, isInterrupted, changed);
+        return { result, variablesReference: 0 };
     }
 
     /** What a line that does something has changed is shown anew. */
@@ -421,13 +521,11 @@ export class DebugAdapter {
         if (this.#machine.hasLeft) return this.#leave();
         if (line.trim() === "new") this.#options.shelf?.putSessionAway();
         this.#rules.look();
-        if (!this.#client.takesInvalidated) return this.#after.push(() => this.#stop({ reason: "console" }));
+        if (!this.#client.takesInvalidated) return this.#after.push(
+            () => this.#stop({ reason: "console", what: "a line of the console, at {}" })
+        );
         this.#printing.show();
-        this.#keep();
-        this.#after.push(() => this.#event("invalidated", { areas: ["all"] }));
+        this.keep();
+        this.#after.push(() => this.#event("invalidated", { areas: ["all"] }), () => this.#drumChanged());
     }
 }
-
-const REQUESTS = DebugAdapter.requests();
-/** What is done where no program is in the machine. */
-const NEEDS_NONE = new Set(["initialize", "launch", "attach", "restart", "disconnect", "terminate", "threads", "setExceptionBreakpoints"]);

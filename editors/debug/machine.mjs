@@ -1,8 +1,16 @@
-// The laboratory of a debugger: what it asks of the monitor, and what an operator does at the console for it. What is known of the machine is in the replies.
-import { bytesFrom, textFrom, wordsOf } from "../../page/module/lines.mjs";
-import * as replies from "../../page/module/replies.mjs";
-import { TextSession } from "../../page/module/text_session.mjs";
-import { Recorded } from "./recorded.mjs";
+// @ts-check
+// The laboratory of a debugger: what it asks of the monitor, and what an operator does at the console for it. What is known of the machine
+// is in the replies.
+import { bytesFrom, textFrom, wordsOf } from "../../libraries/javascript/lines.mjs";
+import * as replies from "../../libraries/javascript/replies.mjs";
+import { TextSession } from "../../libraries/javascript/text_session.mjs";
+import { isYes } from "../answers.mjs";
+import { Recorded, withoutAsides } from "./recorded.mjs";
+
+/** What answers another line, and asks as that does. */
+const AS_JSON = "json";
+/** What is before the code in a record of `paper-data`. */
+const CODE = "\ncode ";
 
 /** What could not be done, as a client shows it. */
 export class Refused extends Error {}
@@ -18,19 +26,28 @@ function granted(reply) {
 }
 
 /** The words of a record of `show-data`, as one line. */
-export const valueOf = (record) => ["digits", "order", "number", "fraction"].flatMap((key) => record.get(key)?.toString().trim() ?? []).join("  ");
+export const valueOf = (record) => ["digits", "order", "number", "fraction"].flatMap(
+    (key) => record.get(key)?.toString().trim() ?? []
+).join("  ");
 
 export class Machine {
     #openSession;
     #session;
     #recorded;
+    /** @type {any} what types lines that may name files, or null */
     #console;
+    /** @type {TextSession | null} */
     #beside = null;
+    /** @type {Map<string, boolean> | null} */
     #commands = null;
     /** How many orders were performed since something else was done: these can be gone back over and performed again. */
     #orders = 0;
 
-    /** A laboratory in a session, with what types lines that may name files: where there is none, the session types them. */
+    /**
+     * A laboratory in a session, with what types lines that may name files: where there is none, the session types them.
+     * @param {() => any} openSession
+     * @param {((session: any, openSession: () => any) => any) | null} [consoleOver]
+     */
     constructor(openSession, consoleOver = null) {
         this.#openSession = openSession;
         this.#session = openSession();
@@ -54,9 +71,17 @@ export class Machine {
         return granted(shown(this.#recorded.ask(typed(line))));
     }
 
-    /** The reply to a question of programs, which no transcript has. */
+    /**
+     * The reply to a question of programs, which no transcript has.
+     * @param {string} line
+     */
     #told(line) {
-        return granted(shown(this.#recorded.answer(typed(line))));
+        return granted(shown(this.#recorded.tell(typed(line))));
+    }
+
+    /** The reply to a question of programs, a refusal too. */
+    replyTo(line) {
+        return shown(this.#recorded.tell(typed(line)));
     }
 
     #records(line) {
@@ -65,21 +90,25 @@ export class Machine {
 
     /** Whether a line only asks, by its command; undefined where it has none. */
     isQuestion(line) {
-        this.#commands ??= new Map(this.#records("commands-data").map((record) => [record.get("command"), record.get("asks") === "yes"]));
-        return this.#commands.get(wordsOf(line)[0]);
+        this.#commands ??= new Map(this.#records("commands-data").map((record) => [record.get("command"), isYes(record.get("asks"))]));
+        const [command, ...rest] = wordsOf(line);
+        return command === AS_JSON ? this.isQuestion(rest.join(" ")) : this.#commands.get(command);
     }
 
     /** What a console line is answered, a refusal too. */
     async types(line) {
         if (!this.isQuestion(line)) this.#orders = 0;
-        const isAnsweredHere = this.#console === null || Recorded.isConcerned(line);
-        return shown(isAnsweredHere ? this.#recorded.answer(typed(line)) : await this.#console.type(typed(line)));
+        if (this.#console === null || Recorded.isConcerned(line)) return shown(this.#recorded.answer(typed(line)));
+        this.#recorded.note(typed(line));
+        return shown(withoutAsides(await this.#console.type(typed(line))));
     }
 
     /** Puts the tape of a file into the reader, as the monitor does with `tape FILE`. */
     mount(path, bytes) {
         this.#orders = 0;
-        for (const [what, told] of [["typed", bytesFrom(typed(`tape ${path}`))], ["found", bytes]]) granted(shown(textFrom(this.#session.tell(what, told).reply)));
+        this.#recorded.note(typed(`tape ${path}`));
+        const told = { typed: bytesFrom(typed(`tape ${path}`)), found: bytes };
+        for (const [what, said] of Object.entries(told)) granted(shown(textFrom(this.#session.tell(what, said).reply)));
     }
 
     /** What the lines of a source are answered, each with a sign for each of its bytes. */
@@ -93,7 +122,7 @@ export class Machine {
     }
 
     transcript() {
-        return this.#recorded.answer("transcript");
+        return this.#recorded.transcript();
     }
 
     /** The fields of `state-data`. */
@@ -112,6 +141,16 @@ export class Machine {
         return replies.recordsOf(this.asks(`json show-data ${address} 1`))[0];
     }
 
+    /** The address that a label or an address names, or null. */
+    addressNamed(name) {
+        try {
+            return this.word(name).get("address");
+        } catch (refusal) {
+            if (!(refusal instanceof Refused)) throw refusal;
+            return null;
+        }
+    }
+
     why(address) {
         return this.#records(`why-data ${address}`)[0];
     }
@@ -128,10 +167,21 @@ export class Machine {
         return this.#records("tape-data")[0];
     }
 
+    /** The codes that were printed after the first `count`. There may be very many, and their records are not read whole. */
+    codesAfter(count) {
+        const reply = this.#recorded.tell(`paper-data ${count}`);
+        if (replies.isRefusal(reply)) granted(reply);
+        const codes = [];
+        for (let at = reply.indexOf(CODE); at >= 0; at = reply.indexOf(CODE, at)) {
+            at += CODE.length;
+            codes.push(Number.parseInt(reply.slice(at, at + 2), 10));
+        }
+        return codes;
+    }
 
+    /** The rows of the typewriter's paper. */
     paper() {
-        const { count, text: rows } = replies.paperOf(this.#told("paper"));
-        return { count, rows };
+        return replies.paperOf(this.#told("paper")).text;
     }
 
     source() {
@@ -146,16 +196,31 @@ export class Machine {
         return run;
     }
 
-    /** Starts the machine again where it has halted for its typewriter, and performs an order: the run, or null where it waits for nothing. */
+    /**
+     * Starts the machine again where it has halted for its typewriter, and performs an order: the run, or null where it waits for nothing.
+     */
     operate() {
         const reply = this.does("operate 1");
         return replies.startsOf(reply) === 0 ? null : replies.runOf(reply);
     }
 
-    back(orders) {
+    /** How many orders can be gone back over. */
+    kept() {
+        return this.state().get("kept");
+    }
+
+    /** Goes back over orders. */
+    #back(orders) {
         const before = this.#orders;
         this.does(`back ${orders}`);
         this.#orders = Math.max(0, before - orders);
+    }
+
+    /** Goes back over one order; whether there was one. */
+    stepBack() {
+        if (this.kept() === 0) return false;
+        this.#back(1);
+        return true;
     }
 
     /** Goes back to the latest order that a rule hits: what the monitor says of it, or null where there is none. */
@@ -168,20 +233,18 @@ export class Machine {
         return last;
     }
 
-    /** Goes back as far as steps are kept; the monitor's sentence that says how far. */
+    /** Goes back as far as orders are kept; over how many that was. */
     toFirst() {
-        const refusal = this.tries("last").trim();
-        const { number } = replies.refusalOf(refusal);
-        if (number === 0) throw new Refused(refusal);
-        this.back(number);
-        return refusal;
+        const orders = this.kept();
+        if (orders > 0) this.#back(orders);
+        return orders;
     }
 
     /** Lets the machine go on, as the monitor says that it can; whether it goes. One that waits for keys does not. */
     wake() {
         const way = this.state().get("way");
         if (way === "keys") return false;
-        if (way !== "orders") for (const button of way.split(" ")) this.does(`press ${button}`);
+        if (way !== "orders") for (const button of way.split("-")) this.does(`press ${button}`);
         return true;
     }
 
@@ -198,11 +261,33 @@ export class Machine {
         }
     }
 
-    /** The digits of what `put` takes as a word. A laboratory beside this one works them out. */
-    digitsOf(value) {
+    /** The reply of a laboratory beside this one, in which values are tried. */
+    #tried(line) {
         this.#beside ??= new TextSession(this.#openSession());
-        granted(shown(this.#beside.answer(typed(`put 0000 ${value}`))));
-        return replies.placesOf(this.#beside.answer("words 0000 1"))[0].text;
+        return shown(this.#beside.answer(typed(line)));
+    }
+
+    /** The digits of what `put` takes as a word. */
+    digitsOf(value) {
+        granted(this.#tried(`put 0000 ${value}`));
+        return replies.placesOf(this.#tried("words 0000 1"))[0].text;
+    }
+
+    /**
+     * The digits of a value: as the line that declares a word would be read with the value in place of its first operand, or else as `put`
+     * takes it, or after =, as a whole number.
+     */
+    digitsMeant(value, declared) {
+        const read = declared === null ? null : this.#readAs(value, declared);
+        if (read !== null) return read;
+        const isWhole = replies.isRefusal(this.#tried(`put 0000 ${value}`)) && !replies.isRefusal(this.#tried(`put 0000 = ${value}`));
+        return this.digitsOf(isWhole ? `= ${value}` : value);
+    }
+
+    /** The digits of a line of a source with a value as its first operand, or null. */
+    #readAs(value, { operation, operands }) {
+        for (const line of ["source", ` ${[operation, value, ...operands.slice(1)].join(" ")}`, "."]) this.#tried(line);
+        return replies.recordsOf(this.#tried("json source-data"))[0].get("digits") ?? null;
     }
 
     /** Types digits into the accumulator, as an operator does. */
@@ -245,19 +330,36 @@ export class Machine {
 
     /** The accounts of the last orders, at most this number: it goes back over them and performs them again, which leaves no trace. */
     lastOrders(most) {
-        const orders = Math.min(most, this.#orders, this.state().get("kept"));
+        const orders = Math.min(most, this.#orders, this.kept());
         if (orders === 0) return [];
-        this.asks(`back ${orders}`);
-        return Array.from({ length: orders }, () => replies.reportOf(this.asks("json trace-data 1")).told[0]);
+        return this.#recorded.aside(() => {
+            this.asks(`back ${orders}`);
+            return Array.from({ length: orders }, () => replies.reportOf(this.asks("json trace-data 1")).told[0]);
+        });
     }
 
     /** What was said of a word before the last order was performed. */
     whyBefore(address) {
-        if (this.#orders === 0) return null;
-        this.asks("back 1");
-        const said = this.asks(`why ${address}`);
-        this.asks("run 1");
-        return said.trim();
+        if (this.#orders === 0 || this.kept() === 0) return null;
+        return this.#recorded.aside(() => {
+            this.asks("back 1");
+            const said = this.asks(`why ${address}`);
+            this.asks("run 1");
+            return said.trim();
+        });
+    }
+
+    /** What a work gives here, or if wanted after the order that comes next, which is then undone. */
+    afterwards(isAfter, work) {
+        if (!isAfter) return work();
+        return this.#recorded.aside(() => {
+            this.asks("run 1");
+            try {
+                return work();
+            } finally {
+                this.asks("back 1");
+            }
+        });
     }
 
     sayWhy(address) {

@@ -1,12 +1,16 @@
+// @ts-check
 // The drum as bytes, four for each word, the first digits first; and as instructions.
-import { PLACES, addressOf, numberOf } from "../../page/addresses.mjs";
-import { digitsOf, signedOf } from "../../page/module/replies.mjs";
+import { PLACES, SECTORS, addressOf, numberOf } from "../../page/addresses.mjs";
+import { digitsOf, signedOf } from "../../libraries/javascript/replies.mjs";
 import { Refused } from "./machine.mjs";
 
 const [BYTES, ASKED] = [4, 64];
 
 /** How many words there are from a place on, at most this number. */
 const within = (place, count) => Math.max(0, Math.min(count, PLACES - place));
+
+/** The track and the sector of an address, counted from 0. */
+export const partsOf = (address) => ({ track: Math.floor(numberOf(address) / SECTORS), sector: numberOf(address) % SECTORS });
 
 /** A reference and an offset in bytes as the monitor takes an address. */
 export function addressAt(reference, offset = 0) {
@@ -15,6 +19,8 @@ export function addressAt(reference, offset = 0) {
 }
 
 export class Memory {
+    /** How many bytes the drum has. */
+    static BYTES = BYTES * PLACES;
     #machine;
 
     constructor(machine) {
@@ -33,6 +39,13 @@ export class Memory {
         return words;
     }
 
+    /** The words of a track as lines, one for each sector. */
+    track(number) {
+        return this.#words(SECTORS * number, SECTORS).map((word) => [
+            word.get("address"), word.get("digits"), word.get("order"), word.get("label"),
+        ].filter((it) => it !== undefined).join("  ")).join("\n");
+    }
+
     #bytes(place, count) {
         const bytes = new Uint8Array(count * BYTES);
         const view = new DataView(bytes.buffer);
@@ -40,12 +53,16 @@ export class Memory {
         return bytes;
     }
 
+    /** @param {import("@vscode/debugprotocol").DebugProtocol.ReadMemoryArguments} given */
     read({ memoryReference, offset = 0, count }) {
         const place = this.#placeOf(memoryReference, offset);
         const skipped = offset - BYTES * Math.floor(offset / BYTES);
         if (place < 0 || place >= PLACES) return { address: memoryReference, unreadableBytes: count };
         const bytes = this.#bytes(place, within(place, Math.ceil((count + skipped) / BYTES))).subarray(skipped, skipped + count);
-        return { address: addressOf(place), data: btoa(String.fromCharCode(...bytes)), ...(bytes.length < count ? { unreadableBytes: count - bytes.length } : {}) };
+        return {
+            address: addressOf(place), data: btoa(String.fromCharCode(...bytes)),
+            ...(bytes.length < count ? { unreadableBytes: count - bytes.length } : {})
+        };
     }
 
     /** Puts the words that the bytes change. All of them are on the drum, or nothing is put. */
@@ -54,7 +71,9 @@ export class Memory {
         const place = this.#placeOf(memoryReference, offset);
         const skipped = offset - BYTES * Math.floor(offset / BYTES);
         const count = Math.ceil((written.length + skipped) / BYTES);
-        if (place < 0 || within(place, count) < count) throw new Refused(`${written.length} bytes from ${memoryReference} on are not all on the drum`);
+        if (place < 0 || within(place, count) < count) throw new Refused(
+            `${written.length} bytes from ${memoryReference} on are not all on the drum`
+        );
         const before = this.#bytes(place, count);
         const after = before.slice();
         after.set(written, skipped);
@@ -63,7 +82,9 @@ export class Memory {
     }
 
     #put(place, before, after) {
-        const [old, fresh] = [before, after].map((bytes) => Array.from({ length: bytes.length / BYTES }, (_, at) => digitsOf(new DataView(bytes.buffer).getInt32(at * BYTES))));
+        const [old, fresh] = [before, after].map((bytes) => Array.from(
+            { length: bytes.length / BYTES }, (_, at) => digitsOf(new DataView(bytes.buffer).getInt32(at * BYTES))
+        ));
         const changed = [...fresh.entries()].filter(([at, digits]) => digits !== old[at]);
         for (const [, digits] of changed) this.#machine.digitsOf(digits);
         this.#machine.atRest(() => changed.forEach(([at, digits]) => this.#machine.does(`put ${addressOf(place + at)} ${digits}`)));
@@ -86,6 +107,9 @@ export class Memory {
 
     #instruction(word, locationOf) {
         const [address, digits, label] = ["address", "digits", "label"].map((key) => word.get(key));
-        return { address, instructionBytes: digits, instruction: word.get("order") ?? `word ${digits}`, ...(label === undefined ? {} : { symbol: label }), ...locationOf(address) };
+        return {
+            address, instructionBytes: digits, instruction: word.get("order") ?? `word ${digits}`,
+            ...(label === undefined ? {} : { symbol: label }), ...locationOf(address)
+        };
     }
 }

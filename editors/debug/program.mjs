@@ -1,25 +1,9 @@
+// @ts-check
 // A program as it is brought into the machine: assembled, loaded or put, with its tape and its switches.
-import { linesIn, textFrom } from "../../page/module/lines.mjs";
-import { SWITCHES, isRefusal, linesOf, sourceOf } from "../../page/module/replies.mjs";
-import { Source, typedSource } from "../../page/module/source.mjs";
+import { linesIn, textFrom } from "../../libraries/javascript/lines.mjs";
+import { SWITCHES, isRefusal, linesOf, sourceOf } from "../../libraries/javascript/replies.mjs";
+import { Source, typedSource } from "../../libraries/javascript/source.mjs";
 import { Refused } from "./machine.mjs";
-
-const POSITIONS = ["up", "down"];
-
-/** What a launch may ask for, and what each has to be. */
-const WANTED = {
-    program: [(value) => typeof value === "string" && value !== "", "the path of a source"],
-    how: [(value) => value === undefined || ["load", "put"].includes(value), "load or put"],
-    tape: [(value) => value === undefined || typeof value === "string", "the path of a tape text"],
-    switches: [(value) => value === undefined || (typeof value === "object" && value !== null && Object.entries(value).every(([name, position]) => SWITCHES.includes(name) && POSITIONS.includes(position))), `${SWITCHES.join(", ")}, each up or down`],
-};
-
-function checked(launch) {
-    for (const [name, [isRight, wanted]] of Object.entries(WANTED)) {
-        if (!isRight(launch[name])) throw new Refused(`launch: ${name} is to be ${wanted}`);
-    }
-    return launch;
-}
 
 /** The bytes of a file. */
 async function bytesOf(readFile, path) {
@@ -31,18 +15,28 @@ async function bytesOf(readFile, path) {
 }
 
 export class Program {
-    /** The path of the source, and what the monitor says of its lines. */
+    /** The path of the source, the same as the system means it, its lines, and what the monitor says of them. */
     path;
+    identity;
     source;
+    #lines;
 
-    /** Brings what a launch names into a machine in its opening state. */
-    static async broughtInto(machine, launch, { readFile, resolve = (path) => path }) {
-        const { program: named, how = "load", tape, switches = {} } = checked(launch);
-        const path = resolve(named);
-        const text = textFrom(await bytesOf(readFile, path));
-        const passing = tape === undefined ? null : await bytesOf(readFile, tape);
+    /**
+     * Brings what a launch names into a machine in its opening state. Files are found beside the source, and those of a system by
+     * `identityOf`, whatever their path.
+     * @param {any} machine
+     * @param {import("../types/debug.js").Launch} launch
+     * @param {import("../types/debug.js").Options} options
+     */
+    static async broughtInto(machine, launch, { readFile, resolve = (path, beside) => path, identityOf = (path) => path }) {
+        const { program: named, how = "load", tape: tapeNamed, switches = {} } = launch;
         const program = new Program();
-        const start = program.#assemble(machine, path, text);
+        program.path = await resolve(named);
+        const bytes = await bytesOf(readFile, program.path);
+        program.identity = await identityOf(program.path);
+        const tape = tapeNamed === undefined ? null : await resolve(tapeNamed, program.path);
+        const passing = tape === null ? null : await bytesOf(readFile, tape);
+        const start = program.#assemble(machine, textFrom(bytes));
         if (how === "load") machine.does("load");
         else program.#put(machine, start);
         if (passing !== null) machine.atRest(() => machine.mount(tape, passing));
@@ -50,10 +44,10 @@ export class Program {
         return program;
     }
 
-    #assemble(machine, path, text) {
-        const reply = machine.assemble(typedSource(linesIn(text)));
-        if (isRefusal(reply)) throw new Refused(`${path}: ${linesOf(reply).slice(0, 4).join("\n")}`);
-        this.path = path;
+    #assemble(machine, text) {
+        this.#lines = linesIn(text);
+        const reply = machine.assemble(typedSource(this.#lines));
+        if (isRefusal(reply)) throw new Refused(`${this.path}: ${linesOf(reply).slice(0, 4).join("\n")}`);
         this.source = new Source(machine.source());
         return sourceOf(reply).start;
     }
@@ -69,8 +63,21 @@ export class Program {
         return this.source.lineAt(address)?.line ?? null;
     }
 
+    /** The operation and the operands by which the source declares the word at an address, or null. */
+    declared(address) {
+        const line = this.source.lineAt(address);
+        if (line === undefined || line.operation === null) return null;
+        const textOf = ([from, to]) => this.#lines[line.line - 1].slice(from, to);
+        return { operation: textOf(line.operation), operands: line.operands.map(textOf) };
+    }
+
     /** The first line from a line on that makes a word, or null. */
     placedFrom(line) {
         return this.source.words.find((word) => word.line >= line) ?? null;
     }
 }
+
+/** The switches that a launch may set. */
+export const isOfSwitches = (switches) => typeof switches === "object" && switches !== null && Object.entries(switches).every(
+    ([name, position]) => SWITCHES.includes(name) && ["up", "down"].includes(position)
+);

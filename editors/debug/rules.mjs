@@ -1,4 +1,6 @@
+// @ts-check
 // The breakpoints of a client as rules of the monitor. Rules that were typed in the console stay as they are.
+import { Condition } from "./condition.mjs";
 import { Refused } from "./machine.mjs";
 
 const COUNT = /^ *(>=|>|==?|%)? *(\d+) *$/;
@@ -14,42 +16,79 @@ const nameOf = ({ kind, address }) => `${kind} ${address}`;
 /** A rule that a client wants: it breaks at an address, or watches one. */
 class Point {
     hits = 0;
+    /** @type {Condition | null} */
+    condition = null;
 
-    constructor({ id, kind = "break", address = null, message = null, hitCondition, logMessage, line }) {
-        Object.assign(this, { id, kind, address, line, message, log: logMessage || null });
+    /** @param {import("../types/debug.js").Wanted} wanted */
+    constructor({ id, kind = "break", address, message, hitCondition, logMessage, line }) {
+        this.id = id;
+        this.kind = kind;
+        this.address = address ?? null;
+        this.line = line;
+        this.message = message ?? null;
+        this.log = logMessage || null;
         this.count = hitCondition ? COUNT.exec(hitCondition) : null;
-        if (hitCondition && this.count === null) this.message = `${hitCondition} is no count of hits: write a number, perhaps after =, >, >= or %`;
+        const isCount = !hitCondition || this.count !== null;
+        if (!isCount) this.message ??= `${hitCondition} is no count of hits: write a number, perhaps after =, >, >= or %`;
     }
 
-    /** Counts a hit, and says whether that is one of those that were asked for. */
+    /** Whether its condition holds, if it has one. */
+    get holds() {
+        return this.condition === null || this.condition.holds();
+    }
+
+    /** Counts a hit at which its condition holds, and says whether that is one of those that were asked for. */
     hit() {
+        if (!this.holds) return false;
         this.hits += 1;
         if (this.count === null) return true;
         const [, sign = "", count] = this.count;
         return COUNTED[sign](this.hits, Number(count));
     }
 
-    /** What a client is told of it. */
+    /**
+     * What a client is told of it.
+     * @param {{ line?: number }} more
+     * @returns {import("@vscode/debugprotocol").DebugProtocol.Breakpoint}
+     */
     told(more = {}) {
-        return { id: this.id, verified: this.message === null, ...(this.message === null ? {} : { message: this.message }), ...(this.address === null ? {} : { instructionReference: this.address }), ...more };
+        return {
+            id: this.id, verified: this.message === null, ...(this.message === null ? {} : { message: this.message }),
+            ...(this.address === null ? {} : { instructionReference: this.address }), ...more
+        };
     }
 }
 
 export class Rules {
     #machine;
+    #program;
+    /** @type {Map<string, Point[]>} */
     #groups = new Map();
     #own = new Set();
 
-    constructor(machine) {
+    constructor(machine, program) {
         this.#machine = machine;
+        this.#program = program;
     }
 
     /** Makes the points of a group: of each its number, its kind, its address or why it has none, and what was wanted of it. */
     set(group, wanted) {
-        const points = wanted.map((each) => new Point(each));
+        const points = wanted.map((each) => this.#point(each));
         this.#groups.set(group, points);
         this.#agree();
         return points;
+    }
+
+    #point(wanted) {
+        const point = new Point(wanted);
+        if (!wanted.condition || point.message !== null) return point;
+        try {
+            point.condition = Condition.of(wanted.condition, this.#machine, this.#program);
+        } catch (refusal) {
+            if (!(refusal instanceof Refused)) throw refusal;
+            point.message = refusal.message;
+        }
+        return point;
     }
 
     #wanted() {
@@ -57,7 +96,9 @@ export class Rules {
     }
 
     #numbers() {
-        return new Map(this.#machine.rules().map((record) => [nameOf({ kind: record.get("kind"), address: record.get("address") }), record.get("rule")]));
+        return new Map(this.#machine.rules().map(
+            (record) => [nameOf({ kind: record.get("kind"), address: record.get("address") }), record.get("rule")]
+        ));
     }
 
     /** Drops the monitor's rules that are wanted no more, and adds those that are missing. */
@@ -97,7 +138,10 @@ export class Rules {
         return { kind: record.get("kind"), address: record.get("address") };
     }
 
-    /** The points that were hit where a rule has stopped the machine: before the order at the counter, or after an order that changed a word. */
+    /**
+     * The points that were hit where a rule has stopped the machine: before the order at the counter, or after an order that changed a
+     * word.
+     */
     hitNow(number) {
         const stopped = this.rule(number);
         const counter = this.#machine.state().get("counter");
@@ -112,10 +156,13 @@ export class Rules {
         return this.#wanted().filter(({ kind, address }) => kind === "break" && address === counter);
     }
 
-    /** The points of all groups at which a way back stops. */
+    /** The points of all groups at which a way back stops, or null where it goes on. A rule of the console has none. */
     stopsBack(number) {
-        const stopped = nameOf(this.rule(number));
-        const points = this.#wanted().filter((point) => nameOf(point) === stopped);
-        return points.length === 0 || points.some(({ log }) => log === null) ? points : null;
+        const rule = this.rule(number);
+        const points = this.#wanted().filter((point) => nameOf(point) === nameOf(rule));
+        if (points.length === 0) return [];
+        const stopping = points.filter(({ log }) => log === null);
+        const holding = this.#machine.afterwards(rule.kind === "watch", () => stopping.filter(({ holds }) => holds));
+        return holding.length === 0 ? null : holding;
     }
 }

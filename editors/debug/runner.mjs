@@ -1,3 +1,4 @@
+// @ts-check
 // Runs of the machine, in portions so that a pause is heard, up to a point at which a client wants it to stop.
 import { nextPortion } from "../../page/portions.mjs";
 import { Refused } from "./machine.mjs";
@@ -5,9 +6,10 @@ import { Refused } from "./machine.mjs";
 const FIRST_PORTION = 2000;
 /** After how many milliseconds others have their turn. */
 const TURN = 20;
+const OVERFLOW = "halted overflow";
 
 /** Lets what waits be done. */
-const letOthersGo = () => new Promise((resume) => { setTimeout(resume); });
+export const letOthersGo = () => new Promise((resume) => { setTimeout(resume); });
 
 export class Runner {
     #machine;
@@ -16,7 +18,11 @@ export class Runner {
     #log;
     #isOperated;
     #isPausing = false;
+    /** The orders of this run so far. */
+    #performed = 0;
     isRunning = false;
+    /** Whether an overflow is a stop. */
+    stopsAtOverflow = true;
 
     constructor(machine, rules, printing, log, isOperated) {
         this.#machine = machine;
@@ -34,6 +40,7 @@ export class Runner {
     async run(isEntering) {
         this.isRunning = true;
         this.#isPausing = false;
+        this.#performed = 0;
         this.#printing.begin();
         try {
             return (isEntering ? this.#stopFor(this.#rules.hitAtEntry()) : null) ?? await this.#portions();
@@ -51,21 +58,29 @@ export class Runner {
         for (;;) {
             const begun = performance.now();
             const stop = this.#portion(size);
+            const took = performance.now() - begun;
             if (stop !== null) return stop;
             this.#printing.show();
-            if (this.#printing.left === 0) return { reason: "pause", sentence: `${this.#printing.sinceAsked} codes were printed since the run began: continue lets it print on` };
-            size = this.#sizeAfter(size, performance.now() - begun);
+            if (this.#printing.left === 0) return {
+                reason: "pause", sentence: `${this.#printing.sinceAsked} codes were printed since the run began: continue lets it print on`,
+            };
+            size = this.#sizeAfter(size, took);
             if (performance.now() - turn < TURN) continue;
             await letOthersGo();
             turn = performance.now();
-            if (this.#isPausing) return { reason: "pause" };
+            if (this.#isPausing) return { reason: "pause", what: "a pause at {}" };
         }
     }
 
-    /** The size of the next portion. One that prints is short, so that it prints no more than is wanted. */
+    /**
+     * The size of the next portion, by what the machine took for the last one. It prints about as much as is left, if it prints as the
+     * orders before did.
+     */
     #sizeAfter(size, took) {
+        this.#performed += size;
+        const printed = this.#printing.sinceAsked;
         const next = nextPortion(size, took);
-        return this.#printing.sinceAsked === 0 ? next : Math.min(next, Math.max(1, this.#printing.left));
+        return printed === 0 ? next : Math.min(next, Math.max(1, Math.ceil((this.#printing.left * this.#performed) / printed)));
     }
 
     /** Performs some orders; why it is to stop, or null. */
@@ -76,10 +91,16 @@ export class Runner {
     }
 
     #rest() {
+        if (this.#goesOnAfterOverflow()) return null;
         const again = this.#isOperated ? this.#machine.operate() : null;
         if (again === null) return this.#halted();
         if (again.end === "limit") return null;
         return again.end === "rule" ? this.#stopAt(again.rule) : this.#rest();
+    }
+
+    /** Starts the machine again where an overflow has halted it and is no stop; whether it did. */
+    #goesOnAfterOverflow() {
+        return !this.stopsAtOverflow && this.#machine.state().get("status") === OVERFLOW && this.#machine.wake();
     }
 
     /** The machine has stopped itself. */
@@ -87,7 +108,7 @@ export class Runner {
         const state = this.#machine.state();
         const status = state.get("status");
         const sentence = `${state.get("state-sentence")}: ${state.get("way-sentence")}`;
-        return { reason: status === "halted overflow" ? "exception" : status, sentence };
+        return { reason: status === OVERFLOW ? "exception" : status, sentence };
     }
 
     /** What a rule's stop is for the client: null where all that was hit only counts or writes. */
@@ -96,15 +117,21 @@ export class Runner {
         return this.#stopFor(hit, stopped, isOfConsole);
     }
 
-    /** The stop for points that were hit, and for the rule that has stopped the machine. */
+    /**
+     * The stop for points that were hit, and for the rule that has stopped the machine.
+     * @param {any[]} hit
+     * @param {any} stopped
+     */
     #stopFor(hit, stopped = null, isOfConsole = false) {
         const counted = hit.filter((point) => point.hit());
         for (const { log } of counted) if (log !== null) this.#log(log);
         const points = counted.filter(({ log }) => log === null);
         if (points.length === 0 && !isOfConsole) return null;
         const { kind, address } = points.find((point) => point.kind === stopped?.kind) ?? points[0] ?? stopped;
-        if (kind === "break") return { reason: "breakpoint", points };
-        return { reason: "data breakpoint", points, sentence: this.#machine.sayWhy(address), text: this.#machine.whyBefore(address) ?? undefined };
+        if (kind === "break") return { reason: "breakpoint", what: "a breakpoint at {}", points };
+        return {
+            reason: "data breakpoint", points, sentence: this.#machine.sayWhy(address), text: this.#machine.whyBefore(address) ?? undefined,
+        };
     }
 
     /** Performs one order. */
@@ -112,17 +139,33 @@ export class Runner {
         if (!this.#machine.wake()) return this.#halted();
         this.#printing.begin();
         const run = this.#machine.run(1);
-        if (run.end === "rule") return this.#stopAt(run.rule) ?? { reason: "step" };
-        return run.end === "rest" ? this.#halted() : { reason: "step" };
+        const step = { reason: "step", what: "a step to {}" };
+        if (run.end === "rule") return this.#stopAt(run.rule) ?? step;
+        return run.end === "rest" && !this.#goesOnAfterOverflow() ? this.#halted() : step;
+    }
+
+    /** Goes back one order. */
+    stepBack() {
+        return this.#machine.stepBack()
+            ? { reason: "step", what: "a step back to {}" }
+            : { reason: "entry", what: "the end of the way back, at {}: no order before it is kept" };
     }
 
     /** Goes back to the latest order that a breakpoint hits, or to the first that is kept. */
     runBack() {
         for (;;) {
             const said = this.#machine.last();
-            if (said === null) return { reason: "entry", sentence: this.#machine.toFirst() };
+            if (said === null) return {
+                reason: "entry",
+                what: this.#machine.toFirst() > 0
+                    ? "the end of the way back, at {}: it hits no breakpoint"
+                    : "the end of the way back, at {}: no order before it is kept",
+            };
             const points = this.#rules.stopsBack(said.rule);
-            if (points !== null) return { reason: this.#rules.rule(said.rule).kind === "break" ? "breakpoint" : "data breakpoint", points };
+            if (points === null) continue;
+            return this.#rules.rule(said.rule).kind === "break"
+                ? { reason: "breakpoint", what: "back to a breakpoint at {}", points }
+                : { reason: "data breakpoint", what: "back to {}, where a watched word is about to change", points };
         }
     }
 }

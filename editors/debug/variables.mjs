@@ -1,11 +1,14 @@
+// @ts-check
 // What a debugger shows of the machine: scopes of variables, each asked of the monitor when it is opened.
-import { SWITCHES } from "../../page/module/replies.mjs";
+import { SWITCHES } from "../../libraries/javascript/replies.mjs";
 import { Refused, valueOf } from "./machine.mjs";
 
 /** How many of the last orders are shown. */
 const LAST_ORDERS = 12;
 const SCOPES = ["Registers", "Switches", "Tape", "Labels", "Kept steps"];
 const [REGISTERS, WAY, TAPE, LABELS, STEPS] = SCOPES.map((_, at) => at + 1);
+/** What is before the name of a field of the machine's state, so that it is no label. */
+const STATE = "@";
 /** What the console can set besides switches, and how. */
 const SET = {
     counter: (machine, value) => machine.goTo(value),
@@ -16,12 +19,21 @@ const SET = {
 /** What is said of a value beside it. */
 const BESIDE = ["label", "order", "number"];
 
+/**
+ * @param {string} name
+ * @param {string} value
+ * @param {Partial<import("@vscode/debugprotocol").DebugProtocol.Variable>} more
+ * @returns {import("@vscode/debugprotocol").DebugProtocol.Variable}
+ */
 const leaf = (name, value, more = {}) => ({ name, value, variablesReference: 0, ...more });
 const pairsOf = (record) => [...record].map(([name, value]) => leaf(name, String(value)));
+/** The field of the state that an expression names, or null. */
+const fieldIn = (expression) => (expression.startsWith(STATE) ? expression.slice(STATE.length) : null);
 
 export class Variables {
     #machine;
     /** What can be opened besides the scopes, by its number less that of the scopes. */
+    /** @type {(() => any[])[]} */
     #opened = [];
 
     constructor(machine) {
@@ -30,7 +42,9 @@ export class Variables {
 
     scopes() {
         this.#opened = [];
-        return SCOPES.map((name, at) => ({ name, variablesReference: at + 1, expensive: at + 1 === STEPS, ...(at === 0 ? { presentationHint: "registers" } : {}) }));
+        return SCOPES.map((name, at) => (
+            { name, variablesReference: at + 1, expensive: at + 1 === STEPS, ...(at === 0 ? { presentationHint: "registers" } : {}) }
+        ));
     }
 
     /** The number by which variables can be opened. */
@@ -39,6 +53,10 @@ export class Variables {
         return SCOPES.length + this.#opened.length;
     }
 
+    /**
+     * @param {number} reference
+     * @returns {import("@vscode/debugprotocol").DebugProtocol.Variable[]}
+     */
     variables(reference) {
         switch (reference) {
             case REGISTERS: return this.#registers();
@@ -61,13 +79,19 @@ export class Variables {
         const isBeside = (key) => BESIDE.some((end) => key.endsWith(`-${end}`));
         const names = [...state.keys()].filter((key) => !isBeside(key) && !SWITCHES.includes(key) && !key.startsWith("live-"));
         return names.map((name) => leaf(name, [state.get(name), ...BESIDE.flatMap((end) => state.get(`${name}-${end}`) ?? [])].join("  "), {
-            evaluateName: name, ...(name === "counter" ? { memoryReference: state.get(name) } : {}), ...(name in SET ? {} : { presentationHint: { attributes: ["readOnly"] } }) }));
+            evaluateName: STATE + name, ...(name === "counter" ? { memoryReference: state.get(name) } : {}),
+            ...(name in SET ? {} : { presentationHint: { attributes: ["readOnly"] } }) }));
     }
 
     #switches() {
         const state = this.#machine.state();
-        const live = [...state].filter(([key, value]) => key.startsWith("live-") && value === "yes").map(([key]) => key.slice("live-".length));
-        return [...SWITCHES.map((name) => leaf(name, state.get(name), { evaluateName: name })), leaf("live", live.join(" "), { presentationHint: { attributes: ["readOnly"] } })];
+        const live = [...state].filter(
+            ([key, value]) => key.startsWith("live-") && value === true
+        ).map(([key]) => key.slice("live-".length));
+        return [
+            ...SWITCHES.map((name) => leaf(name, state.get(name), { evaluateName: STATE + name })),
+            leaf("live", live.join(" "), { presentationHint: { attributes: ["readOnly"] } }),
+        ];
     }
 
     #labelled(name, place) {
@@ -79,17 +103,24 @@ export class Variables {
         }
     }
 
-    /** A word of the drum as a variable; opened it says what put it there. */
+    /**
+     * A word of the drum as a variable; opened it says what put it there.
+     * @returns {import("@vscode/debugprotocol").DebugProtocol.Variable}
+     */
     word(name, record) {
         const address = record.get("address");
-        return { name, value: valueOf(record), evaluateName: name, memoryReference: address, variablesReference: this.#reference(() => pairsOf(this.#machine.why(address))) };
+        return {
+            name, value: valueOf(record), evaluateName: address, memoryReference: address,
+            variablesReference: this.#reference(() => pairsOf(this.#machine.why(address))),
+        };
     }
 
     #steps() {
         const orders = this.#machine.lastOrders(LAST_ORDERS);
-        const kept = leaf("kept", String(this.#machine.state().get("kept")));
+        const kept = leaf("kept", String(this.#machine.kept()));
         return [kept, ...orders.reverse().map((account, ago) => ({
-            name: `${ago + 1} ago`, value: `${account.get("at")}  ${account.get("order") ?? account.get("status")}  ${account.get("after")}`,
+            name: `${ago + 1} ago`,
+            value: `${account.get("at")}  ${account.get("order") ?? account.get("status")}  ${account.get("after")}`,
             variablesReference: this.#reference(() => pairsOf(account)) }))];
     }
 
@@ -99,7 +130,7 @@ export class Variables {
         if (reference === TAPE && name === "left") this.#machine.atRest(() => this.#machine.does(`mount ${value}`));
         else if ([REGISTERS, WAY].includes(reference)) this.#setState(name, value);
         else throw new Refused(`the console cannot set ${name} here`);
-        return this.variables(reference).find((it) => it.name === name).value;
+        return this.variables(reference).find((it) => it.name === name)?.value ?? "";
     }
 
     #setState(name, value) {
@@ -110,32 +141,67 @@ export class Variables {
 
     /** Puts a word on the drum. */
     setWord(address, value) {
-        this.#machine.word(address);
+        this.#named(address);
         this.#machine.atRest(() => this.#machine.does(`put ${address} ${value}`));
         return valueOf(this.#machine.word(address));
     }
 
-    /** Sets what an expression names. */
-    setNamed(name, value) {
-        if (!this.#machine.state().has(name)) return this.setWord(name, value);
-        this.#setState(name, value);
-        return this.#machine.state().get(name);
+    /** The fields of the state as expressions name them. */
+    fields() {
+        return [...this.#machine.state().keys()].map((name) => STATE + name);
     }
 
-    /** What an expression is: a field of the state, a word, or the reply to a line that only asks. */
-    evaluated(expression, takesLines) {
+    /** The value of a field of the state, as it is shown. */
+    #field(name) {
         const state = this.#machine.state();
-        if (state.has(expression)) return leaf(expression, state.get(expression));
+        if (!state.has(name)) throw new Refused(`the machine's state has no ${name}: it has ${[...state.keys()].join(", ")}`);
+        return String(state.get(name));
+    }
+
+    /** Sets what an expression names: a word of the drum, or after @ a field of the state. */
+    setNamed(expression, value) {
+        const field = fieldIn(expression);
+        if (field === null) return this.setWord(expression, value);
+        this.#setState(field, value);
+        return this.#field(field);
+    }
+
+    /** What an expression is: a word by its label or address, a field of the state after @, or the reply to a line that only asks. */
+    evaluated(expression, takesLines) {
+        const field = fieldIn(expression);
+        if (field !== null) return leaf(expression, this.#field(field));
+        const isQuestion = takesLines && this.#machine.isQuestion(expression);
         try {
-            return this.word(expression, this.#machine.word(expression));
+            return this.word(expression, this.#named(expression));
         } catch (refusal) {
-            if (!(refusal instanceof Refused) || !takesLines || !this.#machine.isQuestion(expression)) throw refusal;
+            if (!(refusal instanceof Refused) || !isQuestion) throw refusal;
             return leaf(expression, this.#machine.asks(expression).trimEnd());
         }
     }
 
-    /** The label whose variable this is, or null. */
+    /**
+     * The word that a label or an address names. Where it names neither, but a field of the state, the refusal says how that is written.
+     */
+    #named(expression) {
+        try {
+            return this.#machine.word(expression);
+        } catch (refusal) {
+            if (!(refusal instanceof Refused) || !this.#machine.state().has(expression)) throw refusal;
+            throw new Refused(`${refusal.message}; ${STATE}${expression} is the machine's`);
+        }
+    }
+
+    /**
+     * The address of what a variable shows, or of what an expression names where the reference is 0; null where that is no word of the
+     * drum.
+     */
     addressOf(reference, name) {
-        return reference === LABELS ? this.#machine.word(name).get("address") : null;
+        if (![0, LABELS].includes(reference)) return null;
+        try {
+            return this.#machine.word(name.trim()).get("address");
+        } catch (refusal) {
+            if (!(refusal instanceof Refused)) throw refusal;
+            return null;
+        }
     }
 }

@@ -7,9 +7,9 @@
 
 ;;; Commentary:
 
-;; A major mode for sources of the LGP-30, a drum computer of 1956.  With eglot the program
-;; lgp30-language-server tells of faults while one types; with dap-mode lgp30-debug-adapter runs
-;; programs and goes back.  dap-mode has no commands for the way back: `lgp-step-back' and
+;; A major mode for sources of the LGP-30, a drum computer of 1956.  With eglot or lsp-mode the
+;; program lgp30-language-server tells of faults while one types; with dap-mode
+;; lgp30-debug-adapter runs programs and goes back.  dap-mode has no commands for the way back: `lgp-step-back' and
 ;; `lgp-reverse-continue' are these.
 
 ;;; Code:
@@ -77,9 +77,19 @@ These are label, operation, name, other operand and comment."
     map)
   "The keys of `lgp-mode'.")
 
+(defvar lgp--told nil "The programs of which was said that they are missing.")
+
+(defun lgp--look-for (command)
+  "Say once where the program of COMMAND is missing."
+  (let ((program (car command)))
+    (unless (or (executable-find program) (member program lgp--told))
+      (push program lgp--told)
+      (message "%s is not found: put it into PATH, or customize the group lgp" program))))
+
 ;;;###autoload
 (define-derived-mode lgp-mode prog-mode "LGP-30"
   "A mode for sources of the LGP-30."
+  (lgp--look-for lgp-language-server)
   (setq-local comment-start "; ")
   (setq-local comment-start-skip "\\(?:^\\|[ \t]\\);+ *")
   (setq-local indent-tabs-mode nil)
@@ -93,6 +103,14 @@ These are label, operation, name, other operand and comment."
 (with-eval-after-load 'eglot
   (add-to-list 'eglot-server-programs (cons 'lgp-mode lgp-language-server)))
 
+(defvar lsp-language-id-configuration)
+(declare-function lsp-register-client "lsp-mode")
+(declare-function make-lsp-client "lsp-mode")
+(declare-function lsp-stdio-connection "lsp-mode")
+(with-eval-after-load 'lsp-mode
+  (add-to-list 'lsp-language-id-configuration '(lgp-mode . "lgp30"))
+  (lsp-register-client (make-lsp-client :new-connection (lsp-stdio-connection (lambda () lgp-language-server)) :major-modes '(lgp-mode) :server-id 'lgp30)))
+
 ;;; The debugger
 
 (declare-function dap-register-debug-provider "dap-mode")
@@ -102,6 +120,7 @@ These are label, operation, name, other operand and comment."
 
 (defun lgp--launch (configuration)
   "What dap-mode wants to know besides CONFIGURATION."
+  (lgp--look-for lgp-debug-adapter)
   (append configuration
           (list :dap-server-path lgp-debug-adapter
                 :name (or (plist-get configuration :name) "LGP-30")

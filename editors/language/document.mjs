@@ -1,4 +1,6 @@
-// A text as an editor has it, in UTF-16, and as the monitor reads it, in bytes. The lines of both end differently: the monitor's at line feeds alone.
+// @ts-check
+// A text as an editor has it, in UTF-16, and as the monitor reads it, in bytes. The lines of both end differently: the monitor's at line
+// feeds alone.
 
 const LINE_END = /\r\n|\n|\r/g;
 const LINE_FEED = 10;
@@ -18,22 +20,31 @@ function lastAt(starts, offset) {
 }
 
 export class Document {
+    /** @type {number[] | null} */
     #starts = null;
+    /** @type {number[] | null} */
     #fed = null;
 
+    /**
+     * @param {string} uri
+     * @param {string} text
+     * @param {number} [version]
+     */
     constructor(uri, text, version) {
-        Object.assign(this, { uri, text, version });
+        this.uri = uri;
+        this.text = text;
+        this.version = version;
     }
 
     /** Where the editor's lines begin. */
     get #lines() {
-        this.#starts ??= [0, ...Array.from(this.text.matchAll(LINE_END), ({ 0: end, index }) => index + end.length)];
+        this.#starts ??= [0, ...Array.from(this.text.matchAll(LINE_END), ({ 0: end, index = 0 }) => index + end.length)];
         return this.#starts;
     }
 
     /** Where the monitor's lines begin. */
     get #feeds() {
-        this.#fed ??= [0, ...Array.from(this.text.matchAll(/\n/g), ({ index }) => index + 1)];
+        this.#fed ??= [0, ...Array.from(this.text.matchAll(/\n/g), ({ index = 0 }) => index + 1)];
         return this.#fed;
     }
 
@@ -53,6 +64,7 @@ export class Document {
 
     /** The text after changes. A change without a range is all of the text. */
     changed(changes, version) {
+        /** @type {Document} */
         let after = this;
         for (const { range, text } of changes) {
             const [from, to] = range === undefined ? [0, after.text.length] : [after.offsetAt(range.start), after.offsetAt(range.end)];
@@ -76,7 +88,9 @@ export class Document {
     /** The text of a line of the monitor, counted from 1. */
     line(number) {
         const next = this.#feeds[number];
-        return this.text.slice(this.#feeds[number - 1] ?? this.text.length, next === undefined ? this.text.length : next - 1).replace(/\r$/, "");
+        return this.text.slice(
+            this.#feeds[number - 1] ?? this.text.length, next === undefined ? this.text.length : next - 1
+        ).replace(/\r$/, "");
     }
 
     /** The offset of a byte of a line of the monitor; a byte within a sign is where that begins, or if asked where it ends. */
@@ -85,7 +99,7 @@ export class Document {
         const line = this.line(number);
         let [at, passed] = [0, 0];
         while (at < line.length && passed < byte) {
-            const point = line.codePointAt(at);
+            const point = line.codePointAt(at) ?? 0;
             const next = passed + bytesIn(point);
             if (next > byte && !isEnd) break;
             passed = next;
@@ -118,7 +132,11 @@ export class Document {
 
     /** The same with edits, which do not overlap. */
     edited(edits) {
-        const placed = edits.map(({ range, newText }) => [this.offsetAt(range.start), this.offsetAt(range.end), newText]).sort(([one], [other]) => other - one);
-        return new Document(this.uri, placed.reduce((text, [from, to, put]) => text.slice(0, from) + put + text.slice(to), this.text), this.version);
+        const placed = edits.map(({ range, newText }) => [
+            this.offsetAt(range.start), this.offsetAt(range.end), newText,
+        ]).sort(([one], [other]) => other - one);
+        return new Document(
+            this.uri, placed.reduce((text, [from, to, put]) => text.slice(0, from) + put + text.slice(to), this.text), this.version
+        );
     }
 }

@@ -1,12 +1,20 @@
+// @ts-check
 // What the language server knows: all of it is asked of a laboratory.
-import { LINE_LIMIT } from "../../page/module/lines.mjs";
-import { isRefusal, recordsOf, refusalOf } from "../../page/module/replies.mjs";
-import { bytesOf } from "../../page/module/session.mjs";
-import { Source } from "../../page/module/source.mjs";
+import { LINE_LIMIT } from "../../libraries/javascript/lines.mjs";
+import { isRefusal, linesOf, recordsOf, refusalOf } from "../../libraries/javascript/replies.mjs";
+import { bytesOf, textOf } from "../../libraries/javascript/session.mjs";
+import { isYes } from "../answers.mjs";
+import { Source } from "../../libraries/javascript/source.mjs";
 
-const POINT = 46;
+const [POINT, LINE_FEED, RETURN] = [46, 10, 13];
 /** How many bytes a session is sent before another one takes its place. */
-const MOST_SENT = 500_000;
+const MOST_SENT = 4_000_000;
+/** The line of a fault in the reply to a source. */
+const FAULT = /^line (\d+) (\w+)$/;
+/** The printed characters, of which some begin a comment. */
+const PRINTED = Array.from({ length: 94 }, (unused, at) => String.fromCharCode(33 + at));
+
+const isPoint = (line) => line.length === 1 && line[0] === POINT;
 
 /** A source that is refused as a whole. */
 export class TooLong extends Error {
@@ -17,12 +25,33 @@ export class TooLong extends Error {
     }
 }
 
+/** The bytes of lines as a file has them: it has no line that is only a point, and its reader leaves out a return of each line. */
+function fileOf(lines) {
+    const rows = lines.map((line) => (isPoint(line) ? bytesOf("..") : line));
+    const bytes = new Uint8Array(rows.reduce((sum, row) => sum + row.length + 2, 0));
+    let at = 0;
+    for (const row of rows) {
+        bytes.set(row, at);
+        at += row.length;
+        if (row.at(-1) === RETURN) bytes[at++] = RETURN;
+        bytes[at++] = LINE_FEED;
+    }
+    return bytes.subarray(0, at);
+}
+
 export class Laboratory {
     #openSession;
+    /** @type {any} the session that is asked, or null */
     #session = null;
     #sent = 0;
+    /** @type {Map<string, Map<string, any>> | null} */
     #operations = null;
+    /** @type {Map<string, Map<string, any>> | null} */
     #faults = null;
+    /** @type {Set<string> | null} */
+    #named = null;
+    /** @type {string[] | null} */
+    #signs = null;
 
     constructor(openSession) {
         this.#openSession = openSession;
@@ -58,6 +87,41 @@ export class Laboratory {
         return this.#faults;
     }
 
+    /** Whether a fault of a kind is at a part of its line. One that is not is that of a line which is missing. */
+    isMarked(kind) {
+        return !this.faults.has(kind) || isYes(this.faults.get(kind)?.get("marked"));
+    }
+
+    /** Whether an operation may have the name of a label after it: the assembler finds its declaration. */
+    takesName(operation) {
+        const named = this.#named ??= new Set([...this.operations.keys()].filter(
+            (name) => this.read([bytesOf(`a ${name} a`)]).line(1).declared !== null
+        ));
+        return named.has(operation);
+    }
+
+    /** The signs with which operands begin in the table of operations, and then those that begin a comment, each with a blank after it. */
+    get signs() {
+        this.#signs ??= [...this.#operandSigns(), ...this.#commentSigns()];
+        return this.#signs;
+    }
+
+    #operandSigns() {
+        const operands = [...this.operations.values()].flatMap((record) => record.get("example").split(" ").slice(1));
+        return [...new Set(operands.map((operand) => operand[0]).filter((sign) => !/\w/.test(sign)))];
+    }
+
+    #commentSigns() {
+        const source = this.read(PRINTED.map((sign) => bytesOf(sign)));
+        return PRINTED.filter((sign, at) => source.line(at + 1).comment !== null).map((sign) => `${sign} `);
+    }
+
+    /** The operation that ends a source: what mends a source without it has it in a line of its own. */
+    get ending() {
+        const [record] = [...this.faults.values()].filter((it) => !this.isMarked(it.get("fault")));
+        return record.get("mended").slice(record.get("example").length).split("/").at(-1).trim();
+    }
+
     /** What the monitor says of each line of a source. */
     read(lines) {
         this.#opened(lines.reduce((sum, line) => sum + line.length + 1, 0));
@@ -71,7 +135,6 @@ export class Laboratory {
 
     #said(lines) {
         this.#answer("source");
-        const isPoint = (line) => line.length === 1 && line[0] === POINT;
         for (const line of lines) this.#session.bytesFor(isPoint(line) ? bytesOf("..") : line);
         const reply = this.#answer(".");
         const refusal = isRefusal(reply) ? refusalOf(reply) : null;
@@ -80,6 +143,26 @@ export class Laboratory {
             throw new TooLong(refusal.reason ?? refusal.kind, long < 0 ? null : long + 1);
         }
         return new Source(this.#answer("json source-data"));
+    }
+
+    /**
+     * The kinds of the faults of a source by their lines, and nothing else of it; null where it is refused as a whole. It is read as a
+     * file, at once.
+     */
+    faultsIn(lines) {
+        const file = fileOf(lines);
+        this.#opened(file.length);
+        try {
+            this.#session.tell("typed", bytesOf("source tried"));
+            const reply = textOf(this.#session.tell("found", file).reply);
+            if (isRefusal(reply) && refusalOf(reply).kind !== "Faults") return null;
+            return new Map(
+                linesOf(reply).map((row) => FAULT.exec(row)).filter((found) => found !== null).map(([, line, kind]) => [Number(line), kind])
+            );
+        } catch (failure) {
+            this.#session = null;
+            throw failure;
+        }
     }
 
     /** A word at its place, as `show-data` has it, and what it would cost there. */

@@ -1,16 +1,23 @@
-// A source in columns: label, operation, operands and comment, as this project writes them. Only blanks are changed, and no word and no fault.
+// @ts-check
+// A source in columns: label, operation, operands and comment, as this project writes them. Only blanks are changed, and no word and no
+// fault.
 
 const [OPERATION, COMMENT] = [8, 24];
 
 /** A text with blanks after it up to a column, one at least. */
 const upTo = (text, column) => `${text} `.padEnd(column);
 
-/** A line in columns. A line with a comment alone stays as it is, and all that is after an operation is kept, also where it is more than the operation takes. */
+/**
+ * A line in columns. A line with a comment alone stays as it is, and all that is after an operation is kept, also where it is more than the
+ * operation takes.
+ */
 function laidOut(document, { line, label, operation, comment }) {
     const text = (span) => document.textOf(line, span);
     if (label === null && operation === null) return comment === null ? "" : document.line(line);
     let laid = label === null ? "" : text(label);
-    if (operation !== null) laid = (laid === "" ? " ".repeat(OPERATION) : upTo(laid, OPERATION)) + text([operation[0], comment?.[0] ?? Infinity]).trim().split(/[ \t]+/).join(" ");
+    if (operation !== null) laid = (
+        laid === "" ? " ".repeat(OPERATION) : upTo(laid, OPERATION)
+    ) + text([operation[0], comment?.[0] ?? Infinity]).trim().split(/[ \t]+/).join(" ");
     return comment === null ? laid : upTo(laid, COMMENT) + text(comment);
 }
 

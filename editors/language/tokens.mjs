@@ -1,4 +1,6 @@
-// The words of a source as semantic tokens: five numbers each, its line and column since the token before, its length, its type and its modifiers.
+// @ts-check
+// The words of a source as semantic tokens: five numbers each, its line and column since the token before, its length, its type and its
+// modifiers.
 
 const TYPES = ["function", "keyword", "variable", "number", "comment"];
 const [LABEL, OPERATION, NAME, OTHER, COMMENT] = TYPES.keys();
@@ -25,7 +27,10 @@ export function tokensOf(document, source) {
             const { start, end } = document.rangeOf(line.line, span);
             const length = document.textOf(line.line, span).length;
             if (start.line !== end.line || length === 0) continue;
-            data.push(start.line - last.line, start.line === last.line ? start.character - last.character : start.character, length, type, modifiers);
+            data.push(
+                start.line - last.line, start.line === last.line ? start.character - last.character : start.character, length, type,
+                modifiers
+            );
             last = start;
         }
     }

@@ -1,3 +1,4 @@
+// @ts-check
 // The words of a source where an editor asks about them: which one is at a position, and where its label is.
 
 const isIn = (span, byte) => span !== null && span[0] <= byte && byte <= span[1];
@@ -11,7 +12,10 @@ export function wordAt(line, byte) {
     return isIn(line.comment, byte) ? { kind: "comment", span: line.comment } : null;
 }
 
-/** What may be written at a byte: an operation or an operand, and the part of the line that it takes the place of; null where that is a label or a comment. */
+/**
+ * What may be written at a byte: an operation or an operand, and the part of the line that it takes the place of; null where that is a
+ * label or a comment.
+ */
 export function askedAt(line, byte) {
     const at = wordAt(line, byte);
     if (at !== null) return at.kind === "operation" || at.kind === "operand" ? at : null;
@@ -33,12 +37,25 @@ export const nameIn = (document, source, number) => document.textOf(number, sour
 /** Where a label is named: its lines, and the part of each. The first one declares it, if that is wanted. */
 export function usesOf(source, number, isDeclared) {
     const [, to] = source.line(number).label;
-    const uses = source.lines.filter(({ declared }) => declared === number).map(({ line, operands: [[from]] }) => ({ line, span: [from, from + to] }));
+    const uses = source.lines.filter(({ declared }) => declared === number).map(
+        ({ line, operands: [[from]] }) => ({ line, span: [from, from + to] })
+    );
     return isDeclared ? [{ line: number, span: source.line(number).label }, ...uses] : uses;
 }
 
-/** Whether two readings of a source have the same words and the same faults. */
-export function areAlike(one, other) {
-    const told = (source) => source.lines.filter(({ digits, fault }) => digits !== null || fault !== null).map(({ line, place, digits, fault }) => [line, place, digits, fault?.kind].join(" ")).join("\n");
+/**
+ * Whether two readings of a source have the same words and the same faults. One that is marked nowhere is that of the line after the last
+ * one, whichever that is.
+ */
+export function areAlike(one, other, isMarked) {
+    const lineOf = ({ line, fault }) => (fault === null || isMarked(fault.kind) ? line : "");
+    const told = (source) => source.lines.filter(({ digits, fault }) => digits !== null || fault !== null).map((line) => [
+        lineOf(line), line.place, line.digits, line.fault?.kind,
+    ].join(" ")).join("\n");
     return told(one) === told(other);
 }
+
+/** The operation of a line, or null. */
+export const nameOfOperation = (document, line) => (
+    line === undefined || line.operation === null ? null : document.textOf(line.line, line.operation)
+);

@@ -2,9 +2,9 @@
 import assert from "node:assert/strict";
 import { readFileSync } from "node:fs";
 import { DebugAdapter } from "../debug/adapter.mjs";
-import { Session, compiled } from "../../page/module/session.mjs";
+import { Session, compiled } from "../../libraries/javascript/session.mjs";
 
-export const module = compiled(readFileSync(new URL("../../page/module/lgp_c_region.wasm", import.meta.url)));
+export const module = compiled(readFileSync(new URL("../../libraries/javascript/lgp_c_region.wasm", import.meta.url)));
 export const openSession = () => new Session(module);
 
 export class Client {
@@ -36,6 +36,11 @@ export class Client {
             while (at >= this.messages.length) await new Promise((resume) => { this.#waiting.push(resume); });
             if (isWanted(this.messages[at])) return this.messages[at];
         }
+    }
+
+    /** The number of the last request. */
+    get lastSequence() {
+        return this.#sequence - 1;
     }
 
     /** Sends a message as it is. */
@@ -92,6 +97,8 @@ export class Client {
 
     /** What was written, of the categories that are named. */
     output(...categories) {
-        return this.messages.filter(({ event, body }) => event === "output" && categories.includes(body.category)).map(({ body }) => body.output).join("");
+        return this.messages.filter(
+            ({ event, body }) => event === "output" && categories.includes(body.category)
+        ).map(({ body }) => body.output).join("");
     }
 }

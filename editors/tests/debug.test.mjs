@@ -1,10 +1,16 @@
 import assert from "node:assert/strict";
 import { test } from "node:test";
-import { NoMemory, Session, bytesOf, textOf } from "../../page/module/session.mjs";
+import { NoMemory, Session, bytesOf, textOf } from "../../libraries/javascript/session.mjs";
 import { Client } from "./client.mjs";
 
-const SUM = "first   b two\n        a three\n        h sum\n        z\ntwo     int 2 30\nthree   int 3 30\nsum     int 0 30\n        end first\n";
-const LOOP = "start   b count\n        a one\n        h count\n        p =a\n        u start\ncount   int 0 30\none     int 1 30\n        end start\n";
+const SUM = [
+    "first   b two", "        a three", "        h sum", "        z", "two     int 2 30", "three   int 3 30", "sum     int 0 30",
+    "        end first", "",
+].join("\n");
+const LOOP = [
+    "start   b count", "        a one", "        h count", "        p =a", "        u start", "count   int 0 30", "one     int 1 30",
+    "        end start", "",
+].join("\n");
 const files = { "/sum": SUM, "/loop": LOOP, "/faulty": " b none\n", "/tape": "12'\n", "/bad": "12A" };
 
 const clientOf = (options) => new Client({ ...files }, options);
@@ -14,7 +20,7 @@ test("a program is loaded, and stops at a breakpoint, at its end, and one step f
     const [breakpoint] = await client.launched({ program: "/sum" }, [{ line: 2 }]);
     assert.deepEqual([breakpoint.verified, breakpoint.line, breakpoint.instructionReference], [true, 2, "0001"]);
     const stop = await client.event("stopped");
-    assert.deepEqual([stop.reason, stop.hitBreakpointIds, stop.description], ["breakpoint", [breakpoint.id], "the machine is still going"]);
+    assert.deepEqual([stop.reason, stop.hitBreakpointIds, stop.description], ["breakpoint", [breakpoint.id], "a breakpoint at 0001"]);
     const { stackFrames: [frame] } = await client.asks("stackTrace", { threadId: 1 });
     assert.deepEqual([frame.name, frame.line, frame.source.path, frame.instructionPointerReference], ["0001  a 0005", 2, "/sum", "0001"]);
     await client.asks("continue", { threadId: 1 });
@@ -63,12 +69,20 @@ test("a watch tells who wrote the word, and who wrote it before", async () => {
     assert.match(second.description, /^0005 count: 00000004 .*put there by h 0005 .* 1 order ago; before it was/);
     assert.match(second.text, /^0005 count: 00000002 .*put there by h 0005/);
     assert.ok(client.output("console").endsWith(`${second.description}\nbefore that: ${second.text}\n`));
-    assert.deepEqual(await client.asks("dataBreakpointInfo", { name: "nobody" }), { dataId: null, description: "nobody is no word of the drum" });
+    assert.deepEqual(
+        await client.asks("dataBreakpointInfo", { name: "nobody" }), { dataId: null, description: "nobody is no word of the drum" }
+    );
 });
 
 test("a logpoint writes and goes on, and a hit count waits", async () => {
     const client = clientOf();
-    const [log, count, bad] = await client.launched({ program: "/loop" }, [{ line: 2, logMessage: "count {count} at {counter}, {nobody}" }, { line: 5, hitCondition: "3" }, { line: 1, hitCondition: "often" }]);
+    const [log, count, bad] = await client.launched(
+        { program: "/loop" },
+        [
+            { line: 2, logMessage: "count {count} at {@counter}, {nobody}" }, { line: 5, hitCondition: "3" },
+            { line: 1, hitCondition: "often" },
+        ]
+    );
     assert.deepEqual([log.verified, count.verified, bad.verified], [true, true, false]);
     assert.match(bad.message, /write a number/);
     assert.deepEqual((await client.event("stopped")).hitBreakpointIds, [count.id]);
@@ -90,7 +104,10 @@ test("a count of hits is a number, or one after a sign; and there are 64 rules",
         await client.event("stopped");
         return /  (\d+)  \./.exec((await client.scope("Labels")).of("count").value)[1];
     };
-    assert.deepEqual([await stopsOf("3"), await stopsOf("=2"), await stopsOf("==2"), await stopsOf(">3"), await stopsOf(">=3"), await stopsOf("%2")], ["3", "2", "2", "4", "3", "2"]);
+    assert.deepEqual(
+        [await stopsOf("3"), await stopsOf("=2"), await stopsOf("==2"), await stopsOf(">3"), await stopsOf(">=3"), await stopsOf("%2")],
+        ["3", "2", "2", "4", "3", "2"]
+    );
     const many = Array.from({ length: 65 }, (_, at) => ({ name: `start+${at}` }));
     const { breakpoints } = await client.asks("setFunctionBreakpoints", { breakpoints: many });
     assert.deepEqual(breakpoints.map(({ verified }) => verified).filter((is) => !is).length, 1);
@@ -103,18 +120,32 @@ test("a breakpoint is moved to a line that makes a word, and set by label and by
     const set = await client.launched({ program: "/gap", stopOnEntry: true }, [{ line: 1 }, { line: 7 }]);
     assert.deepEqual(set.map(({ verified, line }) => [verified, line]), [[true, 3], [false, 7]]);
     assert.equal((await client.event("stopped")).reason, "entry");
-    const { breakpoints: named } = await client.asks("setFunctionBreakpoints", { breakpoints: [{ name: "later" }, { name: "later+1" }, { name: "nobody" }] });
+    const { breakpoints: named } = await client.asks(
+        "setFunctionBreakpoints", { breakpoints: [{ name: "later" }, { name: "later+1" }, { name: "nobody" }] }
+    );
     assert.deepEqual(named.map(({ instructionReference }) => instructionReference), ["0100", "0101", undefined]);
     assert.match(named[2].message, /nobody is not a label/);
-    const { breakpoints: [placed] } = await client.asks("setInstructionBreakpoints", { breakpoints: [{ instructionReference: "0100", offset: 8 }] });
+    const { breakpoints: [placed] } = await client.asks(
+        "setInstructionBreakpoints", { breakpoints: [{ instructionReference: "0100", offset: 8 }] }
+    );
     assert.equal(placed.instructionReference, "0102");
-    const { breakpoints: [past] } = await client.asks("setInstructionBreakpoints", { breakpoints: [{ instructionReference: "6363", offset: 4 }] });
+    const { breakpoints: [past] } = await client.asks(
+        "setInstructionBreakpoints", { breakpoints: [{ instructionReference: "6363", offset: 4 }] }
+    );
     assert.match(past.message, /6363\+1 is not on the drum/);
     await client.asks("setInstructionBreakpoints", { breakpoints: [{ instructionReference: "0100", offset: 8 }] });
-    assert.deepEqual((await client.asks("breakpointLocations", { source: { path: "/gap" }, line: 1, endLine: 9 })).breakpoints, [{ line: 3 }, { line: 5 }]);
-    assert.match((await client.asks("evaluate", { expression: "rules", context: "repl" })).result, /^rule 0 break 0000 start\nrule 1 break 0100 later\nrule 2 break 0101\nrule 3 break 0102$/);
+    assert.deepEqual(
+        (await client.asks("breakpointLocations", { source: { path: "/gap" }, line: 1, endLine: 9 })).breakpoints,
+        [{ line: 3 }, { line: 5 }]
+    );
+    assert.match(
+        (await client.asks("evaluate", { expression: "rules", context: "repl" })).result,
+        /^rule 0 break 0000 start\nrule 1 break 0100 later\nrule 2 break 0101\nrule 3 break 0102$/
+    );
     await client.asks("setFunctionBreakpoints", { breakpoints: [] });
-    assert.equal((await client.asks("evaluate", { expression: "rules", context: "repl" })).result, "rule 0 break 0000 start\nrule 1 break 0102");
+    assert.equal(
+        (await client.asks("evaluate", { expression: "rules", context: "repl" })).result, "rule 0 break 0000 start\nrule 1 break 0102"
+    );
 });
 
 test("a run goes back to the last breakpoint, and then to the first step that is kept", async () => {
@@ -127,9 +158,12 @@ test("a run goes back to the last breakpoint, and then to the first step that is
     assert.deepEqual((await client.event("stopped")).hitBreakpointIds, [point.id]);
     await client.asks("reverseContinue");
     const first = await client.event("stopped");
-    assert.deepEqual([first.reason, first.description.slice(0, 9)], ["entry", "? 8 NoHit"]);
-    assert.match(await client.refused("reverseContinue"), /^\? 8 NoHit 0/);
-    assert.match(await client.refused("stepBack"), /^\? 7 TooFar 0/);
+    assert.deepEqual([first.reason, first.description], ["entry", "the end of the way back, at 0000 start: it hits no breakpoint"]);
+    for (const command of ["reverseContinue", "stepBack"]) {
+        await client.asks(command);
+        const { reason, description } = await client.event("stopped");
+        assert.deepEqual([reason, description], ["entry", "the end of the way back, at 0000 start: no order before it is kept"], command);
+    }
 });
 
 test("words, switches, registers, counter, mode and tape are set as the console can", async () => {
@@ -137,9 +171,14 @@ test("words, switches, registers, counter, mode and tape are set as the console 
     await client.launched({ program: "/sum", stopOnEntry: true }, [{ line: 3 }]);
     await client.event("stopped");
     const labels = await client.scope("Labels");
-    assert.match((await client.asks("setVariable", { variablesReference: labels.variablesReference, name: "two", value: "= 20" })).value, /^00000028  .*  20  /);
+    assert.match(
+        (await client.asks("setVariable", { variablesReference: labels.variablesReference, name: "two", value: "= 20" })).value,
+        /^00000028  .*  20  /
+    );
     const registers = await client.scope("Registers");
-    const set = async (name, value) => (await client.asks("setVariable", { variablesReference: registers.variablesReference, name, value })).value;
+    const set = async (name, value) => (await client.asks(
+        "setVariable", { variablesReference: registers.variablesReference, name, value }
+    )).value;
     assert.match(await set("accumulator", "= 7"), /^0000000q /);
     assert.match(await set("register", "b 0300"), /^00010300|^0001/);
     assert.match(await set("accumulator", "= 7"), /^0000000q/);
@@ -148,14 +187,25 @@ test("words, switches, registers, counter, mode and tape are set as the console 
     assert.equal(await set("mode", "manual"), "manual");
     assert.match(await set("accumulator", "= 9"), /^00000012/);
     assert.equal(await set("mode", "oneop"), "oneop");
-    assert.match(await client.refused("setVariable", { variablesReference: registers.variablesReference, name: "clock", value: "0" }), /^the console sets counter, accumulator, register, mode and the switches, not clock$/);
-    assert.match(await client.refused("setVariable", { variablesReference: registers.variablesReference, name: "accumulator", value: "00000001" }), /^\? 1 Form/);
+    assert.match(
+        await client.refused("setVariable", { variablesReference: registers.variablesReference, name: "clock", value: "0" }),
+        /^the console sets counter, accumulator, register, mode and the switches, not clock$/
+    );
+    assert.match(
+        await client.refused("setVariable", { variablesReference: registers.variablesReference, name: "accumulator", value: "00000001" }),
+        /^\? 1 Form/
+    );
     const switches = await client.scope("Switches");
-    assert.equal((await client.asks("setVariable", { variablesReference: switches.variablesReference, name: "bp4", value: "down" })).value, "down");
+    assert.equal(
+        (await client.asks("setVariable", { variablesReference: switches.variablesReference, name: "bp4", value: "down" })).value, "down"
+    );
     const tape = await client.scope("Tape");
-    assert.equal((await client.asks("setVariable", { variablesReference: tape.variablesReference, name: "left", value: "12'" })).value, "12'");
+    assert.equal(
+        (await client.asks("setVariable", { variablesReference: tape.variablesReference, name: "left", value: "12'" })).value, "12'"
+    );
+    assert.equal((await client.asks("setVariable", { variablesReference: tape.variablesReference, name: "left", value: "" })).value, "");
     assert.match((await client.asks("setExpression", { expression: "sum", value: ".5" })).value, /^40000000/);
-    assert.equal((await client.asks("setExpression", { expression: "sixbit", value: "down" })).value, "down");
+    assert.equal((await client.asks("setExpression", { expression: "@sixbit", value: "down" })).value, "down");
     assert.match(await client.refused("setExpression", { expression: "nobody", value: "0" }), /not a label/);
 });
 
@@ -166,15 +216,32 @@ test("the drum is read and written as bytes, and shown as instructions", async (
     const bytesAt = async (given) => [...Buffer.from((await client.asks("readMemory", given)).data, "base64")];
     assert.deepEqual(await bytesAt({ memoryReference: "two", count: 8 }), [0, 0, 0, 4, 0, 0, 0, 6]);
     assert.deepEqual(await bytesAt({ memoryReference: "two", offset: 3, count: 2 }), [4, 0]);
-    assert.deepEqual(await client.asks("readMemory", { memoryReference: "6363", offset: 4, count: 8 }), { address: "6363", unreadableBytes: 8 });
+    assert.deepEqual(
+        await client.asks("readMemory", { memoryReference: "6363", offset: 4, count: 8 }), { address: "6363", unreadableBytes: 8 }
+    );
     assert.equal((await client.asks("readMemory", { memoryReference: "6363", count: 8 })).unreadableBytes, 4);
-    assert.deepEqual(await client.asks("writeMemory", { memoryReference: "two", offset: 3, data: Buffer.from([8, 0]).toString("base64") }), { bytesWritten: 2 });
+    assert.deepEqual(
+        await client.asks("writeMemory", { memoryReference: "two", offset: 3, data: Buffer.from([8, 0]).toString("base64") }),
+        { bytesWritten: 2 }
+    );
     assert.deepEqual(await bytesAt({ memoryReference: "two", count: 8 }), [0, 0, 0, 8, 0, 0, 0, 6]);
-    assert.match(await client.refused("writeMemory", { memoryReference: "two", data: Buffer.from([0, 0, 0, 1]).toString("base64") }), /^\? 1 Form/);
-    assert.match(await client.refused("writeMemory", { memoryReference: "6363", data: Buffer.alloc(8).toString("base64") }), /not all on the drum/);
+    assert.match(
+        await client.refused("writeMemory", { memoryReference: "two", data: Buffer.from([0, 0, 0, 1]).toString("base64") }), /^\? 1 Form/
+    );
+    assert.match(
+        await client.refused("writeMemory", { memoryReference: "6363", data: Buffer.alloc(8).toString("base64") }), /not all on the drum/
+    );
     const { instructions } = await client.asks("disassemble", { memoryReference: "0000", instructionOffset: -1, instructionCount: 3 });
-    assert.deepEqual(instructions.map(({ instruction, line, symbol }) => [instruction, line, symbol]), [["not on the drum", undefined, undefined], ["b 0004", 1, "first"], ["a 0005", 2, undefined]]);
-    assert.equal((await client.asks("disassemble", { memoryReference: "6363", instructionCount: 3 })).instructions.filter(({ instruction }) => instruction === "not on the drum").length, 2);
+    assert.deepEqual(
+        instructions.map(({ instruction, line, symbol }) => [instruction, line, symbol]),
+        [["not on the drum", undefined, undefined], ["b 0004", 1, "first"], ["a 0005", 2, undefined]]
+    );
+    assert.equal(
+        (await client.asks(
+            "disassemble", { memoryReference: "6363", instructionCount: 3 }
+        )).instructions.filter(({ instruction }) => instruction === "not on the drum").length,
+        2
+    );
     assert.match(await client.refused("readMemory", { memoryReference: "6464", count: 4 }), /6464 is not an address/);
 });
 
@@ -184,7 +251,10 @@ test("a label past the drum says that it is, and the labels of a long source com
     client.files["/long"] = `${Array.from({ length: 4000 }, (_, at) => `l${at} z`).join("\n")}\n end l0\n`;
     await client.launched({ program: "/past", stopOnEntry: true });
     await client.event("stopped");
-    assert.deepEqual((await client.scope("Labels")).variables.map(({ name, value }) => [name, value]), [["last", "00000000  z 0000  0  .0000000000"], ["past", "? 1 Form: past is not on the drum"]]);
+    assert.deepEqual(
+        (await client.scope("Labels")).variables.map(({ name, value }) => [name, value]),
+        [["last", "00000000  z 0000  0  .0000000000"], ["past", "? 1 Form: past is not on the drum"]]
+    );
     await client.asks("restart", { arguments: { program: "/long", stopOnEntry: true } });
     await client.event("stopped");
     assert.equal((await client.scope("Labels")).variables.length, 4000);
@@ -210,7 +280,7 @@ test("expressions are labels, addresses, registers and lines that ask; the conso
     const evaluated = async (expression, context) => (await client.asks("evaluate", { expression, context })).result;
     assert.match(await evaluated("two", "hover"), /^00000004  .*  2  /);
     assert.match(await evaluated("0005", "watch"), /^00000006/);
-    assert.equal(await evaluated("counter", "watch"), "0000");
+    assert.equal(await evaluated("@counter", "watch"), "0000");
     assert.equal(await evaluated("words two 1", "watch"), "0004 00000004");
     assert.match(await client.refused("evaluate", { expression: "run 1", context: "watch" }), /no address and no label/);
     assert.equal(await evaluated("run 1", "repl"), "ran 1 limit");
@@ -322,16 +392,26 @@ test("what is wrong is said, and the adapter goes on", async () => {
     assert.equal(await client.refused("fly"), "there is no request fly here");
     assert.equal(await client.refused("constructor"), "there is no request constructor here");
     assert.match(await client.refused("attach"), /launch opens one/);
-    for (const [launch, why] of [[{}, /^launch: program is to be the path of a source$/], [{ program: "/gone" }, /^\/gone: it cannot be opened$/], [{ program: "/faulty" }, /^\/faulty: \? 9 Faults\nline 1 UnknownName\n +b none\n/],
-        [{ program: "/sum", how: "fly" }, /how is to be load or put/], [{ program: "/sum", switches: { bp3: "up" } }, /switches is to be bp32, bp16, bp8, bp4, transfer, sixbit, each up or down/], [{ program: "/sum", tape: "/gone" }, /^\/gone: /],
-        [{ program: "/sum", tape: "/bad" }, /^\? 13 File \/bad: the byte at place 2, /]]) assert.match(await client.refused("launch", launch), why);
+    for (const [launch, why] of [[
+        {}, /^launch: program is to be the path of a source$/,
+    ], [{ program: "/gone" }, /^\/gone: it cannot be opened$/], [
+        { program: "/faulty" }, /^\/faulty: \? 9 Faults\nline 1 UnknownName\n +b none\n/,
+    ],
+        [{ program: "/sum", how: "fly" }, /how is to be load or put/],
+        [{ program: "/sum", switches: { bp3: "up" } }, /switches is to be bp32, bp16, bp8, bp4, transfer, sixbit, each up or down/],
+        [{ program: "/sum", tape: "/gone" }, /^\/gone: /],
+        [{ program: "/sum", tape: "/bad" }, /^\? 13 File \/bad: the byte at place 2, /]]) assert.match(await client.refused("launch",
+        launch), why);
     for (const message of [null, 3, {}, { type: "request" }, { type: "request", seq: 1, command: 5 }]) client.take(message);
     await client.asks("launch", { program: "/sum", noDebug: true });
     assert.equal(client.output("important").match(/a message is no request/g).length, 5);
-    assert.deepEqual((await client.asks("setBreakpoints", { source: { path: "/sum" }, breakpoints: [{ line: 1 }] })).breakpoints, [{ id: 1, verified: false, message: "this run has no debugger" }]);
+    assert.deepEqual(
+        (await client.asks("setBreakpoints", { source: { path: "/sum" }, breakpoints: [{ line: 1 }] })).breakpoints,
+        [{ id: 1, verified: false, message: "this run has no debugger" }]
+    );
     assert.match(await client.refused("stepOut"), /no calls to step out of/);
     assert.match(await client.refused("variables", { variablesReference: 99 }), /there are no variables 99/);
-    assert.match(await client.refused("setBreakpoints"), /TypeError/);
+    assert.equal(await client.refused("setBreakpoints"), "setBreakpoints: source is to be an object");
     await client.asks("terminate");
     await client.event("terminated");
     assert.match(await client.refused("continue"), /launch comes first/);
@@ -339,7 +419,10 @@ test("what is wrong is said, and the adapter goes on", async () => {
 
 test("what was done is kept whenever the machine stops, and when it is changed", async () => {
     const kept = [];
-    const shelf = { keepSession: (text) => kept.push(text), putSessionAway: () => kept.push(null), keepSource: (lines) => kept.push(lines.length), dropSource: () => kept.push("dropped") };
+    const shelf = {
+        keepSession: (text) => kept.push(text), putSessionAway: () => kept.push(null), keepSource: (lines) => kept.push(lines.length),
+        dropSource: () => kept.push("dropped"),
+    };
     const client = clientOf({ shelf });
     await client.launched({ program: "/sum" });
     await client.event("stopped");
@@ -361,13 +444,18 @@ test("memory that runs out ends the program, and another one can be launched", a
     await client.event("stopped");
     const { bytesFor } = Session.prototype;
     Session.prototype.bytesFor = () => { throw new NoMemory("there is not enough memory for this line"); };
-    assert.match(await client.refused("stackTrace", { threadId: 1 }), /^NoMemory: there is not enough memory/);
+    assert.match(
+        await client.refused("stackTrace", { threadId: 1 }),
+        /^the laboratory's memory is used up after 0 printed codes: there is not enough memory for this line; what was done is kept, and restart begins anew$/
+    );
     Session.prototype.bytesFor = bytesFor;
     await client.event("terminated");
     await client.asks("launch", { program: "/sum", stopOnEntry: true });
-    Session.prototype.bytesFor = (line) => (textOf(line) === "paper" ? { reply: bytesOf("nothing"), isRefused: false } : bytesFor.call(this, line));
+    Session.prototype.bytesFor = function (line) {
+        return textOf(line) === "json state-data" ? { reply: bytesOf("nothing"), isRefused: false } : bytesFor.call(this, line);
+    };
     await client.asks("configurationDone");
-    assert.match((await client.event("stopped")).description, /^ReplyError: no reply of paper/);
+    assert.match((await client.event("stopped")).description, /^an error of the debug adapter itself: no records: "nothing"$/);
     Session.prototype.bytesFor = bytesFor;
     assert.equal((await client.asks("threads")).threads.length, 1);
 });
@@ -383,13 +471,39 @@ test("whatever is asked, in whatever order, has an answer", async () => {
     };
     const place = () => places[below(places.length)];
     const asked = [
-        () => ["next", {}], () => ["stepBack", {}], () => ["reverseContinue", {}], () => ["stepIn", { granularity: "instruction" }], () => ["stackTrace", {}], () => ["scopes", {}], () => ["variables", { variablesReference: below(9) }],
-        () => ["setVariable", { variablesReference: 1 + below(6), name: ["counter", "accumulator", "register", "mode", "one", "left", "bp4", "kept"][below(8)], value: ["0000", "= 3", "b 0002", "oneop", "down", "12'", "?"][below(7)] }],
-        () => ["setExpression", { expression: place(), value: "= 9" }], () => ["readMemory", { memoryReference: place(), offset: below(20) - 10, count: below(40) }], () => ["writeMemory", { memoryReference: place(), offset: below(4), data: "AAAAAgAA" }],
-        () => ["disassemble", { memoryReference: place(), instructionOffset: below(20) - 10, instructionCount: below(30) }], () => ["gotoTargets", { source: { path: "/loop" }, line: below(12) }], () => ["goto", { targetId: [0, 1, 9999][below(3)] }],
-        () => ["evaluate", { expression: ["run 3", "press manual", "press oneop", "press normal", "type 12'", "new", "break count", "drop 0", "trace 2", "turn 5", "source\n z", " end\n.", "panel"][below(13)], context: "repl" }],
-        () => ["evaluate", { expression: place(), context: "watch" }], () => ["setFunctionBreakpoints", { breakpoints: [{ name: place() }] }], () => ["setDataBreakpoints", { breakpoints: [{ dataId: place(), hitCondition: ["1", ">2", "x"][below(3)] }] }],
-        () => ["setBreakpoints", { source: { path: "/loop" }, breakpoints: [{ line: below(12) }, { line: below(12), logMessage: "{accumulator}" }] }], () => ["pause", {}], () => ["exceptionInfo", {}], () => ["restart", {}], () => ["continue", {}],
+        () => ["next", {}], () => ["stepBack", {}], () => ["reverseContinue", {}], () => ["stepIn", { granularity: "instruction" }],
+        () => ["stackTrace", {}], () => ["scopes", {}], () => ["variables", { variablesReference: below(9) }],
+        () => [
+            "setVariable",
+            {
+                variablesReference: 1 + below(6),
+                name: ["counter", "accumulator", "register", "mode", "one", "left", "bp4", "kept"][below(8)],
+                value: ["0000", "= 3", "b 0002", "oneop", "down", "12'", "?"][below(7)],
+            },
+        ],
+        () => ["setExpression", { expression: place(), value: "= 9" }],
+        () => ["readMemory", { memoryReference: place(), offset: below(20) - 10, count: below(40) }],
+        () => ["writeMemory", { memoryReference: place(), offset: below(4), data: "AAAAAgAA" }],
+        () => ["disassemble", { memoryReference: place(), instructionOffset: below(20) - 10, instructionCount: below(30) }],
+        () => ["gotoTargets", { source: { path: "/loop" }, line: below(12) }], () => ["goto", { targetId: [0, 1, 9999][below(3)] }],
+        () => [
+            "evaluate",
+            {
+                expression: [
+                    "run 3", "press manual", "press oneop", "press normal", "type 12'", "new", "break count", "drop 0", "trace 2", "turn 5",
+                    "source\n z", " end\n.", "panel",
+                ][below(13)],
+                context: "repl",
+            },
+        ],
+        () => ["evaluate", { expression: place(), context: "watch" }],
+        () => ["setFunctionBreakpoints", { breakpoints: [{ name: place() }] }],
+        () => ["setDataBreakpoints", { breakpoints: [{ dataId: place(), hitCondition: ["1", ">2", "x"][below(3)] }] }],
+        () => [
+            "setBreakpoints",
+            { source: { path: "/loop" }, breakpoints: [{ line: below(12) }, { line: below(12), logMessage: "{@accumulator}" }] },
+        ],
+        () => ["pause", {}], () => ["exceptionInfo", {}], () => ["restart", {}], () => ["continue", {}],
     ];
     for (let at = 0; at < 400; at += 1) {
         const [command, given] = asked[below(asked.length)]();

@@ -1,11 +1,13 @@
-// The extension for VS Code and vscode.dev: both servers, in the editor's own process.
-import { bytes } from "../module_bundled.mjs";
-import { Session, compiled } from "../../page/module/session.mjs";
+// @ts-check
+// The extension for VS Code and vscode.dev: both servers, in a worker beside the editor's own process.
+import { Connection } from "./connection.mjs";
 import { serveDebugger } from "./debugger.mjs";
 import { serveLanguage } from "./language.mjs";
+import { Shelves } from "./shelf.mjs";
 
-export async function activate(context) {
-    const module = compiled(bytes);
-    const openSession = () => new Session(module);
-    context.subscriptions.push(...serveDebugger(openSession, context.globalStorageUri), ...await serveLanguage(openSession));
-}
+/** What activates the extension on a platform. */
+export const activateOn = (platform) => async (context) => {
+    const shelves = new Shelves(context.globalStorageUri);
+    const connection = await Connection.opened(context.extensionUri, platform, shelves);
+    context.subscriptions.push(connection, ...serveDebugger(connection, shelves), ...await serveLanguage(connection));
+};

@@ -10,7 +10,7 @@ import zipfile
 from xml.sax.saxutils import escape, quoteattr
 
 TIME = (1980, 1, 1, 0, 0, 0)
-TYPES = {"json": "application/json", "js": "application/javascript", "md": "text/markdown", "vsixmanifest": "text/xml"}
+TYPES = {"json": "application/json", "js": "application/javascript", "md": "text/markdown", "png": "image/png", "wasm": "application/wasm", "vsixmanifest": "text/xml"}
 folder, package = pathlib.Path(sys.argv[1]), sys.argv[2]
 extension = folder / "extension"
 said = json.loads((extension / "package.json").read_text())
@@ -20,25 +20,33 @@ types = "".join(f'<Default Extension=".{ending}" ContentType="{kind}"/>' for end
 plain = "".join(f'<Override PartName="/extension/{file.name}" ContentType="text/plain"/>' for file in files if file.suffix == "")
 content = f'<?xml version="1.0" encoding="utf-8"?>\n<Types xmlns="http://schemas.openxmlformats.org/package/2006/content-types">{types}{plain}</Types>\n'
 
+languages = said["contributes"]["languages"]
+tags = [*said["keywords"], *(language["id"] for language in languages), *(f"__ext_{ending[1:]}" for language in languages for ending in language["extensions"]), *(["__web_extension"] if "browser" in said else [])]
+kinds = said["extensionKind"] + (["web"] if "browser" in said else [])
+
 manifest = f"""<?xml version="1.0" encoding="utf-8"?>
 <PackageManifest Version="2.0.0" xmlns="http://schemas.microsoft.com/developer/vsx-schema/2011">
   <Metadata>
     <Identity Language="en-US" Id={quoteattr(said["name"])} Version={quoteattr(said["version"])} Publisher={quoteattr(said["publisher"])}/>
     <DisplayName>{escape(said["displayName"])}</DisplayName>
     <Description xml:space="preserve">{escape(said["description"])}</Description>
+    <Tags>{escape(",".join(tags))}</Tags>
     <Categories>{escape(",".join(said["categories"]))}</Categories>
     <GalleryFlags>Public</GalleryFlags>
     <Properties>
       <Property Id="Microsoft.VisualStudio.Code.Engine" Value={quoteattr(said["engines"]["vscode"])}/>
-      <Property Id="Microsoft.VisualStudio.Code.ExtensionKind" Value="ui,workspace,web"/>
+      <Property Id="Microsoft.VisualStudio.Code.ExtensionKind" Value={quoteattr(",".join(kinds))}/>
     </Properties>
     <License>extension/LICENSE-MIT</License>
+    <Icon>extension/{escape(said["icon"])}</Icon>
   </Metadata>
   <Installation><InstallationTarget Id="Microsoft.VisualStudio.Code"/></Installation>
   <Dependencies/>
   <Assets>
     <Asset Type="Microsoft.VisualStudio.Code.Manifest" Path="extension/package.json" Addressable="true"/>
     <Asset Type="Microsoft.VisualStudio.Services.Content.Details" Path="extension/README.md" Addressable="true"/>
+    <Asset Type="Microsoft.VisualStudio.Services.Content.Changelog" Path="extension/CHANGELOG.md" Addressable="true"/>
+    <Asset Type="Microsoft.VisualStudio.Services.Icons.Default" Path={quoteattr("extension/" + said["icon"])} Addressable="true"/>
     <Asset Type="Microsoft.VisualStudio.Services.Content.License" Path="extension/LICENSE-MIT" Addressable="true"/>
   </Assets>
 </PackageManifest>

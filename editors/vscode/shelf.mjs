@@ -1,18 +1,36 @@
-// What was done in the debugger, kept in the folder that the editor gives to an extension: a file for each session, and the source that is open in the console.
+// @ts-check
+// What was done in debuggers, kept in the folder that the editor gives to an extension: a file for each session, and the source that is
+// open in its console.
 import * as vscode from "vscode";
 
 /** How many sessions are kept. */
 const MOST_KEPT = 20;
 
-export class Shelf {
+/** The names of the sessions that are kept, the oldest one first. */
+async function namesIn(folder) {
+    await vscode.workspace.fs.createDirectory(folder);
+    const entries = await vscode.workspace.fs.readDirectory(folder);
+    return entries.map(([name]) => name).filter((name) => name.startsWith("session-")).sort();
+}
+
+/** What is kept of one debugger. */
+class Shelf {
     #folder;
+    #number;
+    /** @type {string | null} */
     #session = null;
     #text = "";
     #made = 0;
     #tail = Promise.resolve();
 
-    constructor(folder) {
+    constructor(folder, number) {
         this.#folder = folder;
+        this.#number = number;
+    }
+
+    /** When all that was to be written is. */
+    get written() {
+        return this.#tail;
     }
 
     /** Does what writes, one after another. What cannot be written is left, since the session goes on. */
@@ -24,14 +42,8 @@ export class Shelf {
         return vscode.Uri.joinPath(this.#folder, name);
     }
 
-    async #names() {
-        await vscode.workspace.fs.createDirectory(this.#folder);
-        const entries = await vscode.workspace.fs.readDirectory(this.#folder);
-        return entries.map(([name]) => name).filter((name) => name.startsWith("session-")).sort();
-    }
-
     async #prune() {
-        for (const name of (await this.#names()).slice(0, -MOST_KEPT)) await vscode.workspace.fs.delete(this.#file(name));
+        for (const name of (await namesIn(this.#folder)).slice(0, -MOST_KEPT)) await vscode.workspace.fs.delete(this.#file(name));
     }
 
     putSessionAway() {
@@ -40,27 +52,50 @@ export class Shelf {
 
     keepSession(text) {
         if (this.#session === null) {
-            this.#session = `session-${new Date().toISOString().replaceAll(":", "")}-${this.#made++}.txt`;
+            this.#session = `session-${new Date().toISOString().replaceAll(":", "")}-${this.#number}-${this.#made++}.txt`;
             this.#write(() => this.#prune());
         }
         const name = this.#session;
         this.#text = text;
-        this.#write(() => (this.#text === text || name !== this.#session ? vscode.workspace.fs.writeFile(this.#file(name), new TextEncoder().encode(text)) : undefined));
+        this.#write(() => (
+            this.#text === text || name !== this.#session
+                ? vscode.workspace.fs.writeFile(this.#file(name), new TextEncoder().encode(text))
+                : undefined
+        ));
     }
 
     keepSource(lines) {
-        this.#write(() => vscode.workspace.fs.writeFile(this.#file("open.source"), new TextEncoder().encode(lines.map((line) => `${line}\n`).join(""))));
+        this.#write(() => vscode.workspace.fs.writeFile(
+            this.#file(`open-${this.#number}.source`), new TextEncoder().encode(lines.map((line) => `${line}\n`).join(""))
+        ));
     }
 
     dropSource() {
-        this.#write(() => vscode.workspace.fs.delete(this.#file("open.source")));
+        this.#write(() => vscode.workspace.fs.delete(this.#file(`open-${this.#number}.source`)));
+    }
+}
+
+/** What is kept of all debuggers in a folder, each by its number. */
+export class Shelves {
+    #folder;
+    /** @type {Map<number, Shelf>} */
+    #shelves = new Map();
+
+    constructor(folder) {
+        this.#folder = folder;
     }
 
-    /** Shows the session that was kept last. */
+    of(number) {
+        const shelf = this.#shelves.get(number) ?? new Shelf(this.#folder, number);
+        this.#shelves.set(number, shelf);
+        return shelf;
+    }
+
+    /** Shows the session that was begun last. */
     async showLast() {
-        await this.#tail;
-        const name = (await this.#names()).at(-1);
+        await Promise.all([...this.#shelves.values()].map(({ written }) => written));
+        const name = (await namesIn(this.#folder)).at(-1);
         if (name === undefined) return vscode.window.showInformationMessage("no session of the LGP-30 is kept");
-        return vscode.window.showTextDocument(this.#file(name));
+        return vscode.window.showTextDocument(vscode.Uri.joinPath(this.#folder, name));
     }
 }

@@ -20,14 +20,19 @@ const folder = mkdtempSync(join(tmpdir(), "grammars-"));
 after(() => rmSync(folder, { recursive: true }));
 
 /** The sources of the repository, as copies by their numbers. */
-const sources = ["examples", "tasks"].flatMap((part) => readdirSync(join(top, part), { recursive: true }).filter((name) => name.endsWith(".source")).map((name) => join(top, part, name)));
+const sources = ["examples", "teaching/tasks"].flatMap((part) => readdirSync(
+    join(top, part), { recursive: true }
+).filter((name) => name.endsWith(".source")).map((name) => join(top, part, name)));
 const copies = sources.map((source, at) => {
     const copy = join(folder, `${at}.source`);
     copyFileSync(source, copy);
     return copy;
 });
 /** What the sources have nothing of. */
-const RARE = "; head\n\nb\tb b ;b\n -t\tb+1\n p =;\n p =a ; a\n p ;a\nw word fgjkqw00\n frac -.5;\n int -1 0\n u *-2\nonly\n   ; far\n end b\n";
+const RARE = [
+    "; head", "", "b\tb b ;b", " -t\tb+1", " p =;", " p =a ; a", " p ;a", "w word fgjkqw00", " frac -.5;", " int -1 0", " u *-2", "only",
+    "   ; far", " end b", "",
+].join("\n");
 sources.push("what the sources have nothing of");
 copies.push(join(folder, "rare.source"));
 writeFileSync(copies.at(-1), RARE);
@@ -38,16 +43,22 @@ const laboratory = new Laboratory(openSession);
 function served(text) {
     const document = new Document("", text, 0);
     const source = laboratory.read(document.sourceLines());
-    const rows = source.lines.flatMap((line) => wordsIn(line).map(({ span: [from, to], type }) => `${line.line} ${from} ${to - from} ${LEGEND.tokenTypes[type]}`));
+    const rows = source.lines.flatMap((line) => wordsIn(line).map(
+        ({ span: [from, to], type }) => `${line.line} ${from} ${to - from} ${LEGEND.tokenTypes[type]}`
+    ));
     return { rows, isRight: (row) => source.line(parseInt(row)).fault === null };
 }
 
 /** What the grammars call what the server calls so. */
 const KINDS = {
-    lgp30Label: "function", lgp30Named: "keyword", lgp30Others: "keyword", lgp30Name: "variable", lgp30Number: "number", lgp30Rest: "number", lgp30Comment: "comment",
-    "font-lock-function-name-face": "function", "font-lock-keyword-face": "keyword", "font-lock-variable-name-face": "variable", "font-lock-constant-face": "number", "font-lock-comment-face": "comment",
-    "Token.Name.Function": "function", "Token.Keyword": "keyword", "Token.Name.Variable": "variable", "Token.Literal.Number": "number", "Token.Comment.Single": "comment",
-    "entity.name.function.label.lgp30": "function", "keyword.control.operation.lgp30": "keyword", "variable.other.lgp30": "variable", "constant.numeric.lgp30": "number", "comment.line.semicolon.lgp30": "comment",
+    lgp30Label: "function", lgp30Named: "keyword", lgp30Others: "keyword", lgp30Name: "variable", lgp30Number: "number",
+    lgp30Rest: "number", lgp30Comment: "comment",
+    "font-lock-function-name-face": "function", "font-lock-keyword-face": "keyword", "font-lock-variable-name-face": "variable",
+    "font-lock-constant-face": "number", "font-lock-comment-face": "comment",
+    "Token.Name.Function": "function", "Token.Keyword": "keyword", "Token.Name.Variable": "variable", "Token.Literal.Number": "number",
+    "Token.Comment.Single": "comment",
+    "entity.name.function.label.lgp30": "function", "keyword.control.operation.lgp30": "keyword", "variable.other.lgp30": "variable",
+    "constant.numeric.lgp30": "number", "comment.line.semicolon.lgp30": "comment",
     "hljs-title": "function", "hljs-keyword": "keyword", "hljs-variable": "variable", "hljs-number": "number", "hljs-comment": "comment",
 };
 
@@ -68,8 +79,16 @@ const isThere = (command) => spawnSync(command, ["--version"]).status === 0;
 
 test("the grammar for Vim, in Neovim and in Vim", { skip: !isThere("nvim") || !isThere("vim") }, () => {
     const script = join(folder, "tokens.vim");
-    writeFileSync(script, [`set runtimepath^=${join(editors, "vim")}`, `source ${join(clients, "tokens.vim")}`, "syntax on", ...copies.flatMap((copy) => [`edit ${copy}`, "set filetype=lgp30", `call Tokens('${copy}.tokens')`]), "quitall!", ""].join("\n"));
-    for (const [program, ...words] of [["nvim", "--headless", "-u", "NONE", "-i", "NONE"], ["vim", "-es", "-N", "-u", "NONE", "-i", "NONE"]]) {
+    writeFileSync(
+        script,
+        [
+            `set runtimepath^=${join(editors, "vim")}`, `source ${join(clients, "tokens.vim")}`, "syntax on",
+            ...copies.flatMap((copy) => [`edit ${copy}`, "set filetype=lgp30", `call Tokens('${copy}.tokens')`]), "quitall!", "",
+        ].join("\n")
+    );
+    for (const [program, ...words] of [
+        ["nvim", "--headless", "-u", "NONE", "-i", "NONE"], ["vim", "-es", "-N", "-u", "NONE", "-i", "NONE"],
+    ]) {
         execFileSync(program, [...words, "-S", script], { stdio: "ignore" });
         compared(written);
         for (const copy of copies) rmSync(`${copy}.tokens`);
@@ -77,12 +96,18 @@ test("the grammar for Vim, in Neovim and in Vim", { skip: !isThere("nvim") || !i
 });
 
 test("the grammar for Emacs", { skip: !isThere("emacs") }, () => {
-    execFileSync("emacs", ["--batch", "-Q", "-L", join(editors, "emacs"), "-l", join(clients, "tokens.el"), "-f", "tokens-write", ...copies], { stdio: "ignore" });
+    execFileSync(
+        "emacs", ["--batch", "-Q", "-L", join(editors, "emacs"), "-l", join(clients, "tokens.el"), "-f", "tokens-write", ...copies],
+        { stdio: "ignore" }
+    );
     compared(written);
 });
 
 test("the grammar for Pygments", { skip: spawnSync("/usr/bin/python3", ["-c", "import pygments"]).status !== 0 }, () => {
-    execFileSync("/usr/bin/python3", [join(clients, "tokens.py"), join(editors, "pygments/lgp30.py"), ...copies], { env: { ...process.env, PYTHONDONTWRITEBYTECODE: "1" } });
+    execFileSync(
+        "/usr/bin/python3", [join(clients, "tokens.py"), join(editors, "pygments/lgp30.py"), ...copies],
+        { env: { ...process.env, PYTHONDONTWRITEBYTECODE: "1" } }
+    );
     compared(written);
 });
 

@@ -20,7 +20,7 @@ local function faults()
 end
 
 local function look()
-  await('a client', function() return #vim.lsp.buf_get_clients(0) > 0 end)
+  await('a client', function() return next((vim.lsp.get_clients or vim.lsp.buf_get_clients)(vim.lsp.get_clients and { bufnr = 0 } or 0)) ~= nil end)
   await('a fault', function() return #vim.diagnostic.get(0) == 1 end)
   told('faults', faults())
   at(1, 8)
@@ -31,6 +31,7 @@ local function look()
   told('definition', vim.api.nvim_win_get_cursor(0))
   told('keys', vim.tbl_map(function(it) return it.lhs end, vim.api.nvim_buf_get_keymap(0, 'n')))
   told('omnifunc', vim.bo.omnifunc)
+  told('own', vim.fn.maparg('gr', 'n'))
   told('symbols', vim.tbl_map(function(it) return it.name end, asked('textDocument/documentSymbol')))
 end
 
@@ -51,6 +52,9 @@ local function change()
   local actions = asked('textDocument/codeAction', { range = range, context = { diagnostics = {} } })
   told('actions', vim.tbl_map(function(it) return it.title end, actions))
   vim.lsp.util.apply_workspace_edit(actions[1].edit, 'utf-16')
+  vim.api.nvim_buf_set_lines(0, 1, 2, false, { ' a   three' })
+  vim.cmd('normal! 2Ggqq')
+  told('gq', vim.api.nvim_buf_get_lines(0, 0, 3, false))
   told('mended', vim.api.nvim_buf_get_lines(0, 0, 1, false)[1])
 end
 

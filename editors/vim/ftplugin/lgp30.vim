@@ -5,7 +5,7 @@ endif
 let b:did_ftplugin = 1
 
 setlocal comments=:; commentstring=;\ %s autoindent tabstop=8 softtabstop=0 shiftwidth=8 expandtab
-let b:undo_ftplugin = 'setlocal comments< commentstring< autoindent< tabstop< softtabstop< shiftwidth< expandtab<'
+let b:undo_ftplugin = 'setlocal comments< commentstring< autoindent< tabstop< softtabstop< shiftwidth< expandtab< omnifunc< formatexpr<'
 
 if has('nvim')
   lua require('lgp30').start()
