@@ -15,6 +15,9 @@ function split(actions, orders) {
     return { stays, gone };
 }
 
+/** What was typed among actions. */
+const typedIn = (actions) => actions.filter(({ at = null }) => at !== null).map(({ line, at }) => ({ at, keys: line.replace(/^ *type ?/, "") }));
+
 const sum = (actions) => actions.reduce((total, action) => total + action.orders, 0);
 
 /** The actions done and the actions undone. */
@@ -22,6 +25,7 @@ export class ActionHistory {
     #done = [];
     #undone = [];
     #forgotten = 0;
+    #typedBefore = [];
 
     /** How many orders lie behind, as far as they may be gone back over. */
     get behind() {
@@ -62,9 +66,9 @@ export class ActionHistory {
         }
     }
 
-    /** A line that is a step was done: a new one, or again the one that comes next. */
-    line(line, isAgain = false) {
-        this.#done.push({ line, orders: 0 });
+    /** A line that is a step was done: a new one, or again the one that comes next. Of what was typed, `at` says how much text stood on the paper then. */
+    line(line, isAgain = false, at = null) {
+        this.#done.push({ line, orders: 0, ...(at === null ? {} : { at }) });
         if (isAgain) this.#undone.shift();
         else this.#undone = [];
     }
@@ -86,14 +90,28 @@ export class ActionHistory {
     /** Only this number of orders can be gone back over: those before are forgotten. */
     keep(orders) {
         this.#forgotten += Math.max(0, this.behind - orders);
-        this.#done = split(this.#done, orders).gone;
+        const { stays, gone } = split(this.#done, orders);
+        this.#typedBefore.push(...typedIn(stays));
+        this.#done = gone;
     }
 
-    /** Nothing can be gone back over. */
+    /** Nothing can be gone back over; what was typed stays on the paper. */
     clear() {
+        this.#typedBefore.push(...typedIn(this.#done));
         this.#done = [];
         this.#undone = [];
         this.#forgotten = 0;
+    }
+
+    /** Another laboratory, with an empty paper. */
+    begin() {
+        this.clear();
+        this.#typedBefore = [];
+    }
+
+    /** What was typed, each with how much text stood on the paper then. */
+    get typed() {
+        return [...this.#typedBefore, ...typedIn(this.#done)];
     }
 
     /** The mounted tape's text, as far as it was mounted by a line that counts; null where none was. */

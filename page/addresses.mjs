@@ -18,6 +18,9 @@ export function partsOfOrder(text) {
     return letter.length === 1 ? { letter, address } : { letter: null, address: null };
 }
 
+/** An order as it is written without the label of its address; null where there is none. */
+export const bareOrder = (order) => (order === null ? null : order.split(" ").slice(0, 2).join(" "));
+
 /** The address in an order as it is written, or null. */
 export const addressIn = (text) => partsOfOrder(text).address;
 
@@ -37,15 +40,6 @@ export function isAmong(address, first, count) {
     const distance = numberOf(address) - numberOf(first);
     return distance >= 0 && distance < count;
 }
-
-/** The position of a sector on the drum's circle, by the interlace that docs/MACHINE.md draws. */
-export const positionOf = (sector) => (9 * sector) % SECTORS;
-
-/** The sector at a position of that circle, of any turn. */
-export const sectorAt = (position) => (57 * (((position % SECTORS) + SECTORS) % SECTORS)) % SECTORS;
-
-/** How many word times it takes until the head has read a sector, from a clock on: the drum is read once at least. */
-export const placesTo = (sector, clock) => ((positionOf(sector) - Number(clock % BigInt(SECTORS)) + 2 * SECTORS - 1) % SECTORS) + 1;
 
 /** The sector of an address. */
 export const sectorOf = (address) => Number(address.slice(2));

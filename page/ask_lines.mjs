@@ -1,8 +1,8 @@
 // Answers each line of standard input in a session of the module that is named, and writes its reply. Ends with 1 where one was refused.
 //
-//     node ask_lines.mjs module/lgp_c_region.wasm < ../examples/first-run.txt
+//     node ask_lines.mjs ../libraries/javascript/lgp_c_region.wasm < ../examples/first-run.txt
 import { readFileSync, writeFileSync } from "node:fs";
-import { Session, compiled } from "./module/session.mjs";
+import { Session, compiled } from "../libraries/javascript/session.mjs";
 
 const LINE_FEED = 10;
 const CARRIAGE_RETURN = 13;

@@ -1,16 +1,13 @@
-// Puts the one file together: node assemble.mjs TEMPLATE STYLE LACKING MAIN WORKER MODULE EXAMPLES LESSONS TASKS NOTICES, written to standard output.
+// Puts the one file together: node assemble.mjs TEMPLATE STYLE LACKING SHARED BEGIN MAIN WORKER MODULE EXAMPLES LESSONS TASKS NOTICES EXHIBITS, written to standard output.
 import { readFileSync } from "node:fs";
-import { lessonsBelow, remarksBelow, scriptsBelow, sharedSheetsBelow, tasksBelow } from "./documents.mjs";
-import { packed } from "./packed.mjs";
+import { exhibitsBelow, lessonsBelow, remarksBelow, scriptsBelow, sharedSheetsBelow, sourcesBelow, tasksBelow } from "./documents.mjs";
+import { packed, packedText } from "./packed.mjs";
 
-const [template, style, lacking, main, worker, module, shelf, lessons, tasks, notices] = process.argv.slice(2);
+const [template, style, lacking, shared, begin, main, worker, module, shelf, lessons, tasks, notices, exhibits] = process.argv.slice(2);
 const text = (path) => readFileSync(path, "utf8");
 
 /** Text that may stand within a script element: nothing in it ends that element. */
 const inert = (script) => script.replaceAll("</", "<\\/").replaceAll("<!--", "<\\!--");
-
-/** The same of what is parsed as JSON. */
-const inertJson = (value) => inert(JSON.stringify(value)).replaceAll("<\\!--", "\\u003c!--");
 
 /** Notices, in which a paragraph that another one has had is not repeated: the name of that one takes the place of it and of those that follow it. */
 function once(notices) {
@@ -26,8 +23,9 @@ function once(notices) {
     return told.filter((paragraph, place) => paragraph !== told[place - 1]).join("\n\n");
 }
 
-const parts = {
-    STYLE: text(style), LACKING: inert(text(lacking)), MAIN: inert(text(main)), WORKER: inert(text(worker)), MODULE: packed(readFileSync(module)),
-    EXAMPLES: inertJson(Object.fromEntries(scriptsBelow(shelf))), REMARKS: inertJson(remarksBelow(shelf)), LESSONS: inertJson(lessonsBelow(lessons)), SHEETS: inertJson(sharedSheetsBelow(lessons)), TASKS: inertJson(tasksBelow(tasks, shelf)), NOTICES: inertJson(once(text(notices))),
-};
+/** What the page has of other files of the repository, as one text. */
+const texts = JSON.stringify({
+    examples: Object.fromEntries(scriptsBelow(shelf)), remarks: remarksBelow(shelf), sources: sourcesBelow(shelf), lessons: lessonsBelow(lessons), ...sharedSheetsBelow(lessons), tasks: tasksBelow(tasks, shelf), licences: once(text(notices)), exhibits: exhibitsBelow(exhibits, shelf),
+});
+const parts = { LACKING: inert(text(lacking)), SHARED: inert(text(shared)), BEGIN: inert(text(begin)), PARTS: packedText([style, main, worker].map(text).join("\0")), MODULE: packed(readFileSync(module)), TEXTS: packedText(texts) };
 process.stdout.write(text(template).replace(/@([A-Z]+)@/g, (whole, name) => parts[name] ?? whole));

@@ -1,4 +1,4 @@
-// ./check_task: checks pupils' files against a task, and says in words what is missing. tasks/README.md has the form of a task.
+// ./check_task: checks pupils' files against a task, and says in words what is missing. teaching/tasks/README.md has the form of a task.
 //
 //     node check_task.mjs [--language LANGUAGE] TASK FILE..
 //
@@ -7,7 +7,7 @@ import { closeSync, existsSync, openSync, readFileSync, readSync, readdirSync, s
 import { dirname, join } from "node:path";
 import { fileURLToPath } from "node:url";
 import { ModuleLink } from "./module_link.mjs";
-import { NoMemory } from "./module/session.mjs";
+import { NoMemory } from "../libraries/javascript/session.mjs";
 import { TaskFault, checked, sentencesIn, speaker, taskIn } from "./task.mjs";
 
 const [RIGHT, NOT_RIGHT, WRONG_WORDS, UNABLE] = [0, 1, 64, 70];
@@ -15,7 +15,7 @@ const [RIGHT, NOT_RIGHT, WRONG_WORDS, UNABLE] = [0, 1, 64, 70];
 const SOURCE_BYTES = 1_100_000;
 
 const top = join(dirname(fileURLToPath(import.meta.url)), "..");
-const tasksFolder = join(top, "tasks");
+const tasksFolder = join(top, "teaching/tasks");
 const languages = readdirSync(join(tasksFolder, "language")).sort();
 const taskNames = readdirSync(tasksFolder).filter((name) => existsSync(join(tasksFolder, name, "task"))).sort();
 
@@ -84,7 +84,7 @@ async function checkAll({ folder, files, ...language }) {
     const { say } = language;
     try {
         const task = taskIn(readFileSync(join(folder, "task"), "utf8"));
-        const link = new ModuleLink(join(top, "page/module/lgp_c_region.wasm"));
+        const link = new ModuleLink(join(top, "libraries/javascript/lgp_c_region.wasm"));
         const verdicts = [];
         for (const file of files) verdicts.push(await verdictOn(file, task, link, language));
         const lines = verdicts.flatMap(({ verdict, missing }) => [verdict, ...missing.map((sentence) => `    ${sentence}`)]);

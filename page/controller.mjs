@@ -3,8 +3,8 @@ import { ActionHistory } from "./action_history.mjs";
 import { PLACES, addressOf, addressesFrom, isAmong, numberOf, partsOfOrder, trackOf, windowAt } from "./addresses.mjs";
 import { commandIn, commentsIn, isIdle, linesIn, plainOf, setUp } from "./lines.mjs";
 import { LIMITS, MemoryBudget } from "./memory_budget.mjs";
-import * as replies from "./module/replies.mjs";
-import { NoMemory } from "./module/session.mjs";
+import * as replies from "../libraries/javascript/replies.mjs";
+import { NoMemory } from "../libraries/javascript/session.mjs";
 import { Run, questionOf, startsText } from "./portions.mjs";
 import { Queries, SHOWN, costsIn, rowsIn } from "./queries.mjs";
 import { Transcript } from "./transcript.mjs";
@@ -15,6 +15,7 @@ const TALK_KEPT = 300;
 const TOLD_AT_ONCE = 48;
 const STEPPED_AT_ONCE = 200;
 const LAST_TOLD = 12;
+const TO_PRINT = 50;
 const PLACED_AT_MOST = 10_000;
 const NEW = /^ *new *$/;
 const IN_DIGITS = /^ *put +\d{4} +[0-9fgjkqw]{8} *$/;
@@ -32,11 +33,12 @@ class Held extends Error {
 /** The controller of a laboratory. After each change it dispatches an event `change`; views read its fields. */
 export class Controller extends EventTarget {
     /** The last panel; the words shown, each with the order that changed it last, or null; the words of the track that the counter names; and how many codes
-     * have been printed, with the typewriter's paper. */
+     * have been printed, with the typewriter's paper; and the code that was printed last, or null. */
     panel = null;
     words = [];
     track = [];
     printed = { count: 0, text: "" };
+    struck = null;
     /** The accounts of the last orders, each with the `word` that its order used, and the rows of their turns, as far as these orders were told; and the last profile. */
     accounts = [];
     rows = [];
@@ -51,8 +53,9 @@ export class Controller extends EventTarget {
     source = "";
     assembled = null;
     labels = new Map();
-    /** The source that was loaded last, or null. */
+    /** The source that was loaded last, or null; and what its words are, by their places. */
     loaded = null;
+    kinds = new Map();
     /** How many words were loaded, and by how many orders of the loader, as long as no order has been performed after it; or null. */
     loading = null;
     /** The rules, each by the command that made it, and the lines of a script that are still to be done. */
@@ -77,11 +80,16 @@ export class Controller extends EventTarget {
     wantsLast = false;
     isOnShow = false;
     history = new ActionHistory();
+    /** The clock before the first order that the history knows of. */
+    begunAt = 0n;
     /** How many orders were performed since the laboratory was opened, and again where they were performed again. */
     performed = 0;
     /** Lines that only ask and leave no trace, which a view wants asked at each look as well, and their last replies. */
     questionsToo = [];
     answers = [];
+    /** Addresses whose words a view wants known at each look as well, also while a run goes on; and these words, by their addresses. */
+    wordsToo = [];
+    known = new Map();
 
     #link;
     #queries;
@@ -103,6 +111,7 @@ export class Controller extends EventTarget {
     #image = null;
     #cache;
     #isPrinted = false;
+    #between = null;
 
     constructor(link) {
         super();
@@ -267,11 +276,11 @@ export class Controller extends EventTarget {
     }
 
     #forget() {
-        this.history.clear();
+        this.history.begin();
         this.#first = "0000";
         this.#isTouched = false;
         this.#hit = null;
-        Object.assign(this, { openSource: null, accounts: [], rows: [], profile: null, costs: null, assembled: null, labels: new Map(), loaded: null, loading: null, rules: [], lastRun: null, performed: 0 });
+        Object.assign(this, { openSource: null, accounts: [], rows: [], profile: null, costs: null, assembled: null, labels: new Map(), loaded: null, kinds: new Map(), loading: null, rules: [], lastRun: null, performed: 0 });
         this.#isRuleOfScript = [];
         this.#said = [];
         this.#cache.forget();
@@ -358,7 +367,8 @@ export class Controller extends EventTarget {
         const last = this.accounts.at(-1);
         if (last !== undefined) last.register ??= null;
         const [noted] = hasNames ? await this.#transcript.last(1) : [line];
-        this.history.line(noted, isAgain);
+        if (verb === "type") await this.#lookAtPaper();
+        this.history.line(noted, isAgain, verb === "type" ? this.printed.text.length : null);
     }
 
     /** Orders were performed that were not told: what was told before them are not the last orders any more. */
@@ -432,8 +442,8 @@ export class Controller extends EventTarget {
     /** The source that assembled last is on the drum. */
     #noteLoad(reply) {
         this.#forgetHistory();
-        const { source, cells } = this.#image;
-        Object.assign(this, { loaded: source, loading: { words: cells, orders: replies.loadedOf(reply) } });
+        const { source, cells, kinds } = this.#image;
+        Object.assign(this, { loaded: source, kinds, loading: { words: cells, orders: replies.loadedOf(reply) } });
     }
 
     /** A line `new` begins without a script, but where it is a script's. */
@@ -488,6 +498,7 @@ export class Controller extends EventTarget {
     #noteState({ panel, live }) {
         const before = this.panel?.counter;
         Object.assign(this, { panel, costs: this.#costsOfLine });
+        if (this.history.behind + this.history.forgotten === 0) this.begunAt = panel.clock;
         [this.#live, this.#costsOfLine] = [live, null];
         this.accounts = this.accounts.filter(({ clock }) => clock < panel.clock);
         const last = this.accounts.at(-1);
@@ -501,21 +512,28 @@ export class Controller extends EventTarget {
         this.#first = windowAt(counter, SHOWN, [track[0], track.at(-1)]);
     }
 
-    /** The addresses of the words that are shown. */
+    /** The addresses of the words that are shown: those around the counter, and the place of the last order where it lies elsewhere. */
     get #shown() {
-        return addressesFrom(this.#first, SHOWN);
+        const [around, at] = [addressesFrom(this.#first, SHOWN), this.lastTold?.at ?? null];
+        if (at === null || around.includes(at)) return around;
+        return numberOf(at) < numberOf(this.#first) ? [at, ...around] : [...around, at];
     }
 
     async #lookAtWords(isWhole) {
-        const track = trackOf(this.panel.counter);
-        await this.#cache.ask([...track, ...this.#shown], !isWhole);
-        if (isWhole) await this.#cache.askOrigins(this.#shown);
-        Object.assign(this, { words: this.#cache.words(this.#shown), track: this.#cache.words(track).map(({ address, digits }) => ({ address, text: digits })) });
+        const [track, shown] = [trackOf(this.panel.counter), this.#shown];
+        await this.#cache.ask([...track, ...shown, ...this.wordsToo], !isWhole);
+        if (isWhole) await this.#cache.askOrigins(shown);
+        this.known = this.#cache.heldAt(this.wordsToo);
+        Object.assign(this, { words: this.#cache.words(shown), track: this.#cache.words(track).map(({ address, digits }) => ({ address, text: digits })) });
     }
 
     async #lookAtPaper() {
+        const told = this.#isPrinted ? this.accounts.findLast(({ printed }) => printed !== null)?.printed : undefined;
+        const before = this.printed;
         this.printed = await this.#queries.paper();
         this.#isPrinted = false;
+        if (told !== undefined) this.struck = told;
+        else if (this.printed.count !== before.count || this.printed.text !== before.text) this.struck = await this.#queries.struck(this.printed.count);
         this.#budget.printed(this.printed.count);
     }
 
@@ -527,6 +545,13 @@ export class Controller extends EventTarget {
         });
     }
 
+    /** Has the words of these addresses known from now on. */
+    knowAt(addresses) {
+        if (addresses.join() === this.wordsToo.join()) return;
+        this.wordsToo = addresses;
+        if (addresses.length > 0) this.#act(() => (this.openSource === null ? this.#lookAtWords(true) : undefined));
+    }
+
     /** Does lines one after another, as if typed: into the source, where one is open. */
     say(...lines) {
         return this.#act(async () => {
@@ -535,9 +560,17 @@ export class Controller extends EventTarget {
         });
     }
 
-    /** Does lines one after another, as a button does: none of them is meant for a source. */
+    /** Does lines one after another, as a button does: none of them is meant for a source. What is pressed while a run goes on is done between two of its portions. */
     command(...lines) {
-        return this.#action(() => this.#sayAll(lines));
+        if (this.#between === null || !lines.every((line) => commandIn(line) === "press")) return this.#action(() => this.#sayAll(lines));
+        return new Promise((resolve) => { this.#between.push({ lines, resolve }); });
+    }
+
+    /** Does what was pressed since the last portion. */
+    async #pressed() {
+        const pressed = this.#between.splice(0);
+        for (const { lines, resolve } of pressed) resolve(await this.#sayAll(lines));
+        if (pressed.length > 0) this.dispatchEvent(new Event("change"));
     }
 
     /** Performs orders, at most this number, and shows where their word times went. */
@@ -636,6 +669,32 @@ export class Controller extends EventTarget {
         return this.#runOn("operate", Infinity);
     }
 
+    /** Runs until something more was printed, and a little further, but for no more than this number of orders. Whether something was. */
+    runToPrint(limit) {
+        return this.#work(async () => {
+            const before = this.printed.count;
+            for (let [orders, isOn] = [0, true]; isOn && orders < limit && this.printed.count === before; orders += TO_PRINT) {
+                isOn = replies.ordersOf(await this.#say(`orders ${TO_PRINT}`)).orders === TO_PRINT;
+                await this.#lookAtPaper();
+            }
+            await this.#look();
+            return this.printed.count > before;
+        });
+    }
+
+    /** Runs in portions of `size` orders until something is there, the machine rests, or the reader stops it, and for no more than `limit` orders. What is asked for is asked of the paper as it is then. */
+    runUntil(isThere, size, limit) {
+        this.#stops = false;
+        return this.#work(async () => {
+            for (let [left, isOn] = [limit, true]; isOn && !this.#stops && left > 0 && !isThere(); left -= size) {
+                const orders = Math.min(size, left);
+                isOn = replies.ordersOf(await this.#say(`orders ${orders}`)).orders === orders;
+                await this.#lookAtPaper();
+            }
+            await this.#look();
+        });
+    }
+
     #runOn(name, limit) {
         this.#stops = false;
         return this.#work(async () => {
@@ -646,11 +705,19 @@ export class Controller extends EventTarget {
     /** Runs in portions. */
     async #portions(limit, isOperated = false) {
         const run = new Run(limit, this.printed.count, isOperated);
-        while (run.goesOn && !this.#stops) {
-            const start = performance.now();
-            await this.#portion(run, run.next(this.#budget));
-            run.took(performance.now() - start);
-            await this.#tellProgress(run);
+        this.#between = [];
+        try {
+            while (run.goesOn && !this.#stops) {
+                const start = performance.now();
+                await this.#portion(run, run.next(this.#budget));
+                run.took(performance.now() - start);
+                await this.#pressed();
+                await this.#tellProgress(run);
+            }
+        } finally {
+            const left = this.#between;
+            this.#between = null;
+            for (const { lines, resolve } of left) this.command(...lines).then(resolve);
         }
         return run;
     }
@@ -716,16 +783,6 @@ export class Controller extends EventTarget {
         return this.#act(async () => {});
     }
 
-    /** The replies of a new laboratory to a script, all of them. */
-    repliesTo(script) {
-        return this.#act(async () => {
-            await this.#fresh();
-            const text = await this.#link.askAll(linesIn(script));
-            await this.#anew();
-            return text;
-        });
-    }
-
     /** Stops a run after its portion. */
     stop() {
         this.#stops = true;
@@ -771,7 +828,7 @@ export class Controller extends EventTarget {
         }
         this.assembled = replies.sourceOf(reply);
         if (this.assembled.faults.length > 0) return;
-        this.#image = { source: this.source, cells: this.assembled.cells };
+        this.#image = { source: this.source, cells: this.assembled.cells, kinds: await this.#queries.kinds(this.source) };
         this.labels = await this.#queries.labels();
     }
 
@@ -930,11 +987,15 @@ export class Controller extends EventTarget {
         return origin?.order == null ? null : origin;
     }
 
+    /** The last order, where that was told and nothing but its word times has passed since; else null. */
+    get lastTold() {
+        return this.accounts.findLast(({ clock, sum }) => clock + BigInt(sum) === this.panel.clock) ?? null;
+    }
+
     /** The order that stands in the instruction register, or null where it is not known which: the last one, where that was told and left the word that is there. */
     get orderInRegister() {
-        const last = this.accounts.at(-1);
-        const isThere = last !== undefined && last.register === this.panel.register && last.clock + BigInt(last.sum) === this.panel.clock;
-        return isThere ? last.order : null;
+        const last = this.lastTold;
+        return last !== null && last.register === this.panel.register ? last.order : null;
     }
 
     /** The script that leads here. */

@@ -1,10 +1,12 @@
-// What the page takes from files of the repository. Lessons are docs/lessons/NAME.md in English, and docs/lessons/LANGUAGE/NAME.md in each other language;
-// tasks are the folders of tasks/; and examples/language has the comments of the examples in other languages.
+// What the page takes from files of the repository. Lessons are teaching/lessons/NAME.md in English, and teaching/lessons/LANGUAGE/NAME.md in each other language;
+// tasks are the folders of teaching/tasks; and examples/language has the comments of the examples in other languages.
 import { existsSync, readFileSync, readdirSync } from "node:fs";
 import { join } from "node:path";
 import { remarksOf, sourceIn, tableIn } from "./examples.mjs";
+import { exhibitIn } from "./exhibits.mjs";
 import { LESSONS } from "./lesson_steps.mjs";
 import { lessonIn } from "./lessons.mjs";
+import { linesIn } from "./lines.mjs";
 import { sentencesIn, taskIn } from "./task.mjs";
 import { LANGUAGES } from "./words.mjs";
 
@@ -49,6 +51,18 @@ export function scriptsBelow(folder, name = "") {
     });
 }
 
+/** The sources of the examples that have none in their scripts, by the scripts' names: `sources/NAME.source`, or that of a tape, `NAME.source`. */
+export function sourcesOf(shelf) {
+    const fileOf = (name) => [join(shelf, "sources", `${name}.source`), join(shelf, `${name}.source`)].find(existsSync);
+    return scriptsBelow(shelf).filter(([, script]) => !linesIn(script).includes("source")).map(([name]) => [name, fileOf(name)]).filter(([, file]) => file !== undefined).map(([name, file]) => [name, read(file)]);
+}
+
+/** The same by languages and names, each with its comments in that language. */
+export function sourcesBelow(shelf) {
+    const sources = sourcesOf(shelf);
+    return Object.fromEntries(Object.keys(LANGUAGES).map((code) => [code, Object.fromEntries(sources.map(([name, source]) => [name, sourceIn(source, tableOf(shelf, code))]))]));
+}
+
 /** The comments of a language by the English ones, of its file below the folder of the examples; none where it has none, as English. */
 export function tableOf(shelf, code) {
     const file = join(shelf, "language", code);
@@ -78,4 +92,14 @@ export function tasksBelow(folder, shelf) {
     };
     const tasks = names.map((name) => [name, taskOf(name)]).sort(([, one], [, other]) => taskIn(one.task).minutes - taskIn(other.task).minutes);
     return { tasks: Object.fromEntries(tasks), sentences: Object.fromEntries(codes.map((code) => [code, sentencesIn(read(folder, "language", code))])) };
+}
+
+/** The exhibits of the kiosk in a folder, by the names of their files, in the order that `order` there has. A wrong one is refused. */
+export function exhibitsBelow(folder, shelf) {
+    const examples = new Set(scriptsBelow(shelf).map(([name]) => name));
+    return Object.fromEntries(linesIn(read(folder, "order")).map((name) => {
+        const { exhibit, wrong } = exhibitIn(read(folder, `${name}.json`), (it) => examples.has(it));
+        if (wrong !== null) throw new Error(`${join(folder, name)}.json: ${wrong}`);
+        return [name, exhibit];
+    }));
 }

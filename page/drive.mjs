@@ -2,14 +2,16 @@
 import { SECTORS } from "./addresses.mjs";
 import { rewrittenBy } from "./views/says.mjs";
 
-/** The paces by their names: word times a second, how many times faster an act of more than a turn passes, and the rest between two orders. In a tale such an act passes as one turn. A word
- * time of 0.26 milliseconds is a setting of the page. */
+/** How long a word time lasts, in milliseconds: 64 of them are a turn. It is a setting of the page, and what the page says in seconds comes from it. */
+export const WORD_TIME = 0.26;
+
+/** The paces by their names: word times a second, how many times faster an act of more than a turn passes, and the rest between two orders. In a tale such an act passes as one turn. */
 export const PACES = {
     order: { speed: 64, hurry: 4, rest: 2600 },
     slow: { speed: 32, hurry: 1, rest: 0 },
     tale: { speed: 32, rest: 0 },
     show: { rest: 0 },
-    own: { speed: 1000 / 0.26 },
+    own: { speed: 1000 / WORD_TIME },
     fast: {},
 };
 
@@ -20,6 +22,10 @@ export function speedInShow(account, behind) {
 }
 const SHOWN_SLOWLY = 3;
 
+/** In a show an order that has rewritten another one stands for this long, so that its caption can be read, and for this long after it none does; where nothing was printed for so long, what leads to the next print
+ * is passed over, in this many orders at most. */
+export const SHOW = { stands: 5000, apart: 20_000, silence: 10_000, most: 50_000 };
+
 /** At its own pace: how often orders are asked for, at most how many at once, and how many word times one is thought to take at first. */
 const STRETCH = { milliseconds: 100, orders: 200, average: 75 };
 
@@ -28,6 +34,10 @@ export class Drive extends EventTarget {
     /** The pace in which the machine goes on, or null; and the one in which it goes on when it is asked to. */
     pace = null;
     chosen = "fast";
+    /** Whether the last order stands, so that what is told of it can be read. */
+    isTelling = false;
+    /** Whether in a show what is long without a print is passed over. */
+    isSkipping = false;
 
     #laboratory;
     #player;
@@ -37,6 +47,8 @@ export class Drive extends EventTarget {
     #isGoing = false;
     #going = Promise.resolve();
     #left = Infinity;
+    #stood = -Infinity;
+    #heard = { codes: 0, at: 0 };
 
     /** `clocks` has `now`, milliseconds, and `sleep`. `run` does a run in portions. */
     constructor(laboratory, player, run, clocks) {
@@ -86,8 +98,10 @@ export class Drive extends EventTarget {
     #changeTo(pace) {
         if (this.pace === "fast" || pace === null) this.#laboratory.stop();
         this.#player.end();
-        this.pace = pace;
+        [this.pace, this.isTelling] = [pace, false];
         this.#since = null;
+        this.#stood = -Infinity;
+        this.#heard = { codes: this.#laboratory.printed?.count ?? 0, at: this.#clocks.now() };
         this.#wake();
         this.dispatchEvent(new Event("change"));
     }
@@ -119,8 +133,30 @@ export class Drive extends EventTarget {
         const isOn = await this.#order(pace);
         this.#left -= 1;
         if (!isOn || this.#left <= 0 || this.pace !== pace) return isOn;
-        await this.#until(PACES[pace].rest);
+        if (pace === "show") await this.#shown();
+        else await this.#until(PACES[pace].rest);
         return this.#isOn;
+    }
+
+    /** After an order of a show: it stands where it has rewritten another one, and what is long without a print is passed over. */
+    async #shown() {
+        const [laboratory, now] = [this.#laboratory, this.#clocks.now()];
+        if (rewrittenBy(laboratory.accounts.at(-1)) !== null && now - this.#stood > SHOW.apart) {
+            this.#tells(true);
+            await this.#until(SHOW.stands);
+            this.#tells(false);
+            this.#stood = this.#clocks.now();
+        }
+        const { count } = laboratory.printed;
+        if (count !== this.#heard.codes) this.#heard = { codes: count, at: now };
+        if (!this.isSkipping || this.#clocks.now() - this.#heard.at <= SHOW.silence || this.pace !== "show") return;
+        await laboratory.runToPrint(SHOW.most);
+        this.#heard = { codes: laboratory.printed.count, at: this.#clocks.now() };
+    }
+
+    #tells(isTelling) {
+        this.isTelling = isTelling;
+        this.dispatchEvent(new Event("change"));
     }
 
     /** Whether an order was performed. It is played to its end, or to a halt, where the pace waits for it. */

@@ -1,5 +1,6 @@
 // The exhibit at the kiosk: a program that plays by itself until somebody touches it, a story of its first orders, an end that asks a question, and games; and four buttons in each of these
 // states. Nothing here knows of a page.
+import { SHOW } from "./drive.mjs";
 import { KIOSK_GAMES, asksOf } from "./views/kiosk_game.mjs";
 
 /** The example that a kiosk shows where its address names none, and its game; the seconds without input after which it begins anew; how many orders its story has; how long it rests at the end; and where
@@ -13,7 +14,7 @@ export const OFFERS = ["story", "faster", "matches"];
 const LABELS = {
     attract: (has) => [has("story") ? "kioskBegin" : null, has("faster") ? "kioskFaster" : null, has("matches") ? "kioskMatches" : null, "kioskLanguage"],
     story: (has, isLast) => ["captionBack", isLast ? "kioskToEnd" : "captionNext", "kioskOnceMore", "kioskToStart"],
-    show: () => [null, "kioskToEnd", null, "kioskToStart"],
+    show: (has) => ["kioskOnceMore", "kioskToEnd", has("matches") ? "kioskMatches" : has("faster") ? "kioskFaster" : null, "kioskToStart"],
     end: (has) => ["kioskOnceMore", has("faster") ? "kioskFaster" : null, has("matches") ? "kioskMatches" : null, "kioskLanguage"],
     matches: () => ["kioskTake1", "kioskTake2", "kioskTake3", "kioskToStart"],
 };
@@ -24,6 +25,8 @@ export class Exhibit extends EventTarget {
     state = "attract";
     at = 0;
     captions = 0;
+    /** Whether a program is being opened: until that is done the machine is as it was left. */
+    isOpening = false;
     /** The name of the program of the story. */
     name;
 
@@ -35,15 +38,16 @@ export class Exhibit extends EventTarget {
     #round = 0;
     #tail = Promise.resolve();
     #isBegun = false;
+    #printing = new Map();
 
     /**
      * `asked` is the example that is wanted, or null. `settings` has `scriptOf`, which gives an example's text or undefined, `isStill`, which says whether nothing may move, `sleep`, `language`, which changes it,
      * `offers`, the names of what is offered, or null for all that there is, and `views`: what the page opens beside the machine, by the name of its offer, each with `press`, which is given the number of a button
-     * and says whether it goes on, and `labels`, the names of the texts of its buttons.
+     * and says whether it goes on, and `labels`, the names of the texts of its buttons; and `home`, which is called in place of the beginning where this was chosen on a screen before it, or null.
      */
     constructor(laboratory, drive, asked, settings) {
         super();
-        [this.#laboratory, this.#drive, this.#settings, this.#asked] = [laboratory, drive, { views: {}, language: () => {}, offers: null, ...settings }, asked];
+        [this.#laboratory, this.#drive, this.#settings, this.#asked] = [laboratory, drive, { views: {}, language: () => {}, offers: null, home: null, ...settings }, asked];
         const isGame = KIOSK_GAMES.has(asked);
         this.name = asked !== null && !isGame && settings.scriptOf(asked) !== undefined ? asked : KIOSK.example;
         const there = OFFERS.filter((name) => name !== "faster" || "faster" in this.#settings.views);
@@ -78,6 +82,11 @@ export class Exhibit extends EventTarget {
         this.#drive.halt();
     }
 
+    /** Ends it for good. */
+    leave() {
+        this.end();
+    }
+
     #do(action) {
         const done = this.#tail.then(action);
         this.#tail = done.catch(() => {});
@@ -106,6 +115,20 @@ export class Exhibit extends EventTarget {
         if (this.#asked !== null && this.#settings.scriptOf(this.#asked) === undefined) await laboratory.tell({ kind: "noKioskExample", detail: this.#asked, shown: this.name });
     }
 
+    /** Opens a program for a show, which passes over what is long without a print where it prints at all: that is tried once. */
+    async #openShow(name) {
+        this.isOpening = true;
+        if (!this.#printing.has(name) && !this.#settings.isStill()) {
+            await this.#open(name);
+            await this.#start(name);
+            this.#printing.set(name, await this.#laboratory.runToPrint(SHOW.most) === true);
+        }
+        await this.#open(name);
+        this.#drive.isSkipping = this.#printing.get(name) ?? false;
+        this.isOpening = false;
+        this.dispatchEvent(new Event("change"));
+    }
+
     /** Presses Start where the machine stands still. A program that has ended begins anew, since the words after its end are not part of it. */
     async #start(name) {
         if (this.#laboratory.way.kind === "start" && this.#isBegun) await this.#open(name);
@@ -116,12 +139,14 @@ export class Exhibit extends EventTarget {
 
     /** Opens the program, and then plays it again and again, until somebody takes over. What has to be told first, or a wish for no motion, leaves it standing. */
     async attract() {
+        if (this.#settings.home !== null) return this.#settings.home();
         this.#change("attract");
         const round = this.#round;
         const isOn = () => this.isAttract && round === this.#round;
-        await this.#do(() => this.#open(this.#shown));
+        await this.#do(() => (isOn() ? this.#openShow(this.#shown) : undefined));
         if (this.#settings.isStill()) this.#tellOn(isOn);
         else if (this.#laboratory.notice === null) this.#playOn(isOn);
+        return undefined;
     }
 
     async #playOn(isOn) {
@@ -211,9 +236,11 @@ export class Exhibit extends EventTarget {
         });
     }
 
-    /** A press in the show: to its end at once, or to the beginning. */
+    /** A press in the show: the story once more, to its end at once, a game, or to the beginning. */
     #ended(number) {
         if (number === 4) return this.attract();
+        if (number === 1) return this.#begin();
+        if (number === 3) return this.#chosen(this.offers("matches") ? 3 : 2);
         this.#change("end");
         return this.#do(async () => {
             await this.#laboratory.settled();

@@ -3,7 +3,7 @@
 /** How many word times may be owed to a hand that is faster than the machine; and what counts as none. */
 const [MOST, NONE] = [128, 1e-6];
 
-/** A hand at the drum of a laboratory. Dispatches `turn` when it has turned within an order, `end` with the way in which it cannot go on, and `rest` when all that was asked for is done. */
+/** A hand at the drum of a laboratory. Dispatches `take` before it holds the machine, `turn` when it has turned within an order, `end` with the way in which it cannot go on, and `rest` when all that was asked for is done. */
 export class HandTurning extends EventTarget {
     #laboratory;
     #player;
@@ -41,6 +41,7 @@ export class HandTurning extends EventTarget {
     /** Takes the drum in hand: what is played stays where it is. */
     take() {
         const at = this.#player.at();
+        this.dispatchEvent(new Event("take"));
         this.#drive.halt();
         if (at !== null && at.account === this.#laboratory.accounts.at(-1) && !at.done) this.#player.hold(at.account, at.offset);
     }

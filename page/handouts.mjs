@@ -3,13 +3,14 @@
 import { readFileSync, writeFileSync } from "node:fs";
 import { dirname, join } from "node:path";
 import { fileURLToPath } from "node:url";
-import { SECTORS, positionOf } from "./addresses.mjs";
+import { SECTORS } from "./addresses.mjs";
 import { documentOf, lackingIn } from "./documents.mjs";
 import { solveLesson } from "./lesson_solver.mjs";
 import { lessonIn } from "./lessons.mjs";
+import { positionOf } from "./machine.mjs";
 import { LANGUAGES } from "./words.mjs";
 
-const documents = join(dirname(fileURLToPath(import.meta.url)), "../docs/lessons");
+const documents = join(dirname(fileURLToPath(import.meta.url)), "../teaching/lessons");
 
 /**
  * What of each document is on its sheet, where the parts of a document are numbered from 0: which parts each page has; the part with the circle of sectors, and how wide that is in
@@ -21,6 +22,7 @@ const SHEETS = {
     "rewriting": { pages: [[2, 3, 4], [5, 6, 7]], line: 7, circle: { part: 5, width: 110 }, tables: { "3.0": { leaves: [], share: 0 }, "3.1": { leaves: [1, 2], share: 60 } } },
     "reading-a-listing": { pages: [[2, 3], [4, 5, 6]], line: 14, tables: { "2.0": { leaves: [2, 3], share: 65 }, "4.0": { leaves: [2, 3, 4, 5, 6], share: 70 }, "5.0": { leaves: [1], share: 55 } }, blocks: [2] },
     "where-a-word-costs-least": { pages: [[2], [3, 4]], line: 8, circle: { part: 2, width: 144 }, tables: { "4.0": "teams" }, ringOf: "0128" },
+    "what-can-a-forecast-know": { pages: [[2, 3], [4, 5, 6]], line: 16, tables: { "3.0": { leaves: [], share: 0 }, "5.0": { leaves: [0, 1, 2], share: 100 } } },
 };
 
 /** How many rows of a table are left to a team. */
@@ -28,7 +30,7 @@ const ROWS = 5;
 
 const TEXTS = {
     en: { name: "Name", solutions: "Solutions", question: /^\*\*Question\.\*\* ([^]*?) \*Answer\.\* ([^]*)$/, ring: "The ring of costs for the wage: shade the outer field of each sector in which it would cost least.", team: "team" },
-    de: { name: "Name", solutions: "Lösungen", question: /^\*\*Frage\.\*\* ([^]*?) \*Antwort\.\* ([^]*)$/, ring: "Der Ring der Kosten für den Lohn: Füllen Sie das äußere Feld jedes Sektors aus, in dem er am wenigsten kostete.", team: "Gruppe" },
+    de: { name: "Name", solutions: "Lösungen", question: /^\*\*Frage\.\*\* ([^]*?) \*Antwort\.\* ([^]*)$/, ring: "Der Ring der Kosten für den Lohn: Fülle das äußere Feld jedes Sektors aus, in dem er am wenigsten kostete.", team: "Gruppe" },
 };
 
 const STYLE = `@page { size: A4; margin: 12mm 14mm; }

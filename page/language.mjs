@@ -1,8 +1,9 @@
 // The source language as the page has it: how a line is divided for the eye, what completes a word, and what a laboratory says of a source. Whether a source is right, and what its words
 // are, the laboratory says; nothing of that is worked out here.
 import { linesIn } from "./lines.mjs";
-import * as replies from "./module/replies.mjs";
-import { Source, typedSource } from "./module/source.mjs";
+import { LETTERS } from "./machine.mjs";
+import * as replies from "../libraries/javascript/replies.mjs";
+import { Source, typedSource } from "../libraries/javascript/source.mjs";
 
 // the words below are written by editors/grammars.mjs
 /** The operations that are no letter of an order; and those of whose operands none is a name. */
@@ -42,6 +43,17 @@ export function labelsIn(lines) {
     return labels;
 }
 
+/** The names that operands of other lines than the one in work name, and that no line has as its label: they are still to come. */
+export function namedIn(lines, but) {
+    const there = new Set(labelsIn(lines).map(({ name }) => name));
+    const named = lines.flatMap((line, place) => {
+        const [operation, operand] = tokensOf(line).filter(({ kind }) => kind !== "label");
+        const isNaming = place !== but && operand?.kind === "operand" && !WITHOUT_NAMES.has(operation.text);
+        return isNaming ? [/^[a-z][a-z0-9]{0,7}/.exec(operand.text)?.[0] ?? ""] : [];
+    });
+    return [...new Set(named)].filter((name) => name !== "" && !there.has(name)).map((name) => ({ name, line: null, rest: "" }));
+}
+
 /** What is written before a column: the kind of word that is asked for, where that begins, and its text so far; null where no word can be completed. */
 export function askedAt(line, column) {
     const before = tokensOf(line.slice(0, column));
@@ -73,10 +85,11 @@ function distance(one, other) {
     return rows.at(-1).at(-1);
 }
 
-/** The name that is most like another one, or null where none is like it. */
+/** The name that is most like another one, or null where none is like it. Names of another length are not: there may be very many. */
 export function likest(name, names) {
-    const [best] = names.map((it) => [distance(name, it), it]).sort(([one], [other]) => one - other);
-    return best === undefined || best[0] > Math.max(1, name.length / 3) ? null : best[1];
+    const most = Math.max(1, name.length / 3);
+    const [best] = names.filter((it) => Math.abs(it.length - name.length) <= most).map((it) => [distance(name, it), it]).sort(([one], [other]) => one - other);
+    return best === undefined || best[0] > most ? null : best[1];
 }
 
 /** How many faults are shown; the others are counted. */
@@ -119,12 +132,42 @@ export class Checked {
     }
 }
 
+/** What would be right in a line with a fault: what its kind asks for, or what the line says that was meant. A comment may lack its blank, and a label may be set in. */
+function rightOf(kind, line, { rightFor, rightOperand }) {
+    const [operation, ...operands] = tokensOf(line).filter((token) => ["operation", "operand"].includes(token.kind)).map(({ text }) => text);
+    if (["Extra", "BadOperand", "UnknownName"].includes(kind) && operands.some((text) => text.includes(";"))) return rightFor.Comment;
+    if (kind === "UnknownOrder" && isLabelSetIn(line)) return rightFor.Label;
+    return ["MissingOperand", "BadOperand"].includes(kind) ? rightOperand[operation] ?? rightOperand.order : rightFor[kind];
+}
+
+/** Whether an operation is an order's. */
+export const isOrder = (operation) => operation === "-t" || (operation?.length === 1 && LETTERS.includes(operation));
+
+const isOperation = (text) => isOrder(text) || OTHERS.includes(text);
+
+/** Whether a word can be a label and no operation. */
+export const isLabelOnly = (word) => /^[a-z][a-z0-9]{0,7}$/.test(word) && !isOperation(word);
+
+/** Whether a line begins with blanks and then with a label, which an operation follows. */
+export function isLabelSetIn(line) {
+    const [first, second] = tokensOf(line);
+    return first?.kind === "operation" && isLabelOnly(first.text) && second !== undefined && isOperation(second.text);
+}
+
+/** Whether a fault is told already. Nobody is blamed for the line in work; and as long as there is no end line, what is named may still come, and so may the end, until somebody wants to run it. */
+export function isTold({ line, kind }, { inWork, hasEnd, isAsked }) {
+    if (isAsked) return true;
+    return line !== inWork && (hasEnd || !["UnknownName", "NoEnd"].includes(kind));
+}
+
+/** Whether a text has an end line. */
+export const hasEndLine = (lines) => lines.some((line) => tokensOf(line).some(({ kind, text }) => kind === "operation" && text === "end"));
+
 /** What is marked of a fault, and in a language what is wrong, the name that is perhaps meant, and all with what would be right: of a line, and the labels of its source. */
 export function sentenceOf({ kind, from, to }, line, labels, { table, text }) {
     const word = line.slice(from, to);
-    const operation = tokensOf(line).find((token) => token.kind === "operation")?.text;
     const name = kind === "UnknownName" ? likest(/^[a-z0-9]*/.exec(word)[0], labels) : null;
-    const right = ["MissingOperand", "BadOperand"].includes(kind) ? table.rightOperand[operation] ?? table.rightOperand.order : table.rightFor[kind];
+    const right = rightOf(kind, line, table);
     const wrong = table.faultKinds[kind] ?? kind;
     const short = name === null ? wrong : `${wrong}; ${text("perhapsName", { name })}`;
     return { word, short, sentence: name !== null || right === undefined ? short : `${wrong}; ${right}` };

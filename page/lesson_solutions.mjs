@@ -29,6 +29,13 @@ export const SOLUTIONS = {
     "where-a-word-costs-least": [
         steps(2), steps(2), null, runs, (it) => it.askCosts("0128"), null, null, (it) => it.askCosts("0129"), (it) => it.askCosts("0132"),
     ],
+    "what-can-a-forecast-know": [
+        one(types("break steps"), runs, runs, runs), types("numbers x 1"),
+        one(types("run 188800", "press transfer down"), runs),
+        one(...["1000", "-0059", "-0058"].flatMap((number) => [types(`type ${number} '`), runs]), types("type 0240 '", "press transfer up")),
+        types("run 79500"), null,
+        types("run 160000"), null,
+    ],
 };
 
 /** Brings the machine to a step: the part's beginning is set up by `open`, and what the steps between ask for is done. `steps` are those of the lesson, with their lines. */

@@ -15,9 +15,9 @@ const exampleOf = (name) => readFileSync(join(top, `examples/${name}.txt`), "utf
 
 /** The answers of a lesson's steps, null where none is asked for, and the laboratory where they have led. Where a step is not done by its action, or before it, that is an error. */
 export async function solveLesson(name) {
-    const laboratory = new Controller(new ModuleLink(join(top, "page/module/lgp_c_region.wasm")));
+    const laboratory = new Controller(new ModuleLink(join(top, "libraries/javascript/lgp_c_region.wasm")));
     await laboratory.open();
-    const written = lessonIn(readFileSync(documentOf(join(top, "docs/lessons"), name, "en"), "utf8")).steps;
+    const written = lessonIn(readFileSync(documentOf(join(top, "teaching/lessons"), name, "en"), "utf8")).steps;
     const answers = [];
     for (const [place, waited] of LESSONS.find((lesson) => lesson.name === name).steps.entries()) {
         const step = { ...waited, ...written[place] };

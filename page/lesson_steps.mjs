@@ -1,6 +1,7 @@
-// What each step of the lessons waits for, or asks: by what the laboratory has of the monitor's replies. The texts of the steps are in docs/lessons.
-import { SECTORS, inTwoDigits, placesTo, positionOf } from "./addresses.mjs";
-import { wholeOf } from "./module/replies.mjs";
+// What each step of the lessons waits for, or asks: by what the laboratory has of the monitor's replies. The texts of the steps are in teaching/lessons.
+import { SECTORS, inTwoDigits } from "./addresses.mjs";
+import { placesTo, positionOf } from "./machine.mjs";
+import { wholeOf } from "../libraries/javascript/replies.mjs";
 
 const wordAt = ({ words }, address) => words.find((word) => word.address === address);
 const isOrderAt = (address, order) => (laboratory) => wordAt(laboratory, address)?.order === order;
@@ -44,6 +45,47 @@ const goodOf = ({ costs: { sectors } }) => String(sectors.filter(({ times }) => 
 
 /** Whether the order at 0000 brings a word from a place of the pupil's own, none of those that the lesson has shown. */
 const isOwnPlace = (laboratory) => /^b \d{4}$/.test(orderAt("0000")(laboratory)) && !["b 0015", "b 0050"].includes(orderAt("0000")(laboratory));
+
+/** The rows of weather on the paper, each with the number of its step, and ten times X, Y and Z as they are printed. */
+const weatherOn = ({ printed }) => printed.text.split("\n").map((line) => line.match(/-?\d{4}/g) ?? []).filter((row) => row.length === 4);
+
+/** The number that a line types as a row of weather has it, where all of its codes were read; else nothing. */
+const typedBy = ({ line, reply }) => (/^live \d+ dead 0\n$/.test(reply) ? /^type +(-?\d{4}) '$/.exec(line.trim())?.[1] : undefined);
+
+/** Whether an earlier row of weather was typed again, number by number, and the switch for it is up. */
+function wasTypedAgain({ talk, panel, printed }) {
+    const typed = talk.map(typedBy).filter((number) => number !== undefined).slice(-4);
+    return !panel.down.transfer && weatherOn({ printed }).some((row) => row.join() === typed.join());
+}
+
+/** The rows of weather that were printed again, each with the row of the first run. */
+function weatherTwice(laboratory) {
+    const rows = weatherOn(laboratory);
+    const again = rows.findIndex(([number], place) => place > 0 && Number(number) < Number(rows[place - 1][0]));
+    if (again < 0) return [];
+    const first = new Map(rows.slice(0, again).map((row) => [row[0], row]));
+    return rows.slice(again).filter(([number]) => first.has(number)).map((row) => [first.get(row[0]), row]);
+}
+
+const inZ = ([first, again]) => Math.abs(Number(first[3]) - Number(again[3]));
+
+/** The first row in which ten times Z differs by so much from the first run. */
+const partsBy = (least) => (laboratory) => weatherTwice(laboratory).find((both) => inZ(both) >= least)?.[0][0] ?? null;
+const isPrintedAgain = (laboratory) => weatherTwice(laboratory).some((both) => inZ(both) >= 100);
+
+/** The lines in which two runs are drawn, each with its number and how many places the runs are apart. */
+const drawnOn = ({ printed }) => printed.text.split("\n").map((line) => /^(\d{4}) +(?:x|[ab]( *)[ab])$/.exec(line))
+    .filter((line) => line !== null).map(([, number, between]) => [number, between === undefined ? 0 : between.length + 1]);
+const firstApart = (laboratory) => drawnOn(laboratory).find(([, places]) => places >= 3)?.[0] ?? null;
+
+/** The first line after these in which both runs are in one place. */
+function nextMeeting(laboratory) {
+    const apart = firstApart(laboratory);
+    return apart === null ? null : drawnOn(laboratory).find(([number, places]) => number > apart && places === 0)?.[0] ?? null;
+}
+
+/** What the last reply to `numbers x 1` has after the point. */
+const decimalsTold = ({ talk }) => /\.(\d+)/.exec(talk.findLast(({ line }) => line.trim() === "numbers x 1")?.reply ?? "")?.[1] ?? null;
 
 /** The sheet of the lesson about a listing: addresses, and the words there. */
 const SHEET = {
@@ -123,6 +165,16 @@ export const LESSONS = [
         { answer: sumOf(5), isAsked: all(isAt("0200"), holds("00000010"), areTold(5)) },
         { answer: turnsOf(5), isAsked: all(isAt("0200"), holds("00000010"), areTold(5)) },
         { types: true, looks: ["0300"], answer: digitsAt("0300"), isAsked: all(hasStopped, (laboratory) => wordAt(laboratory, "0300") !== undefined) },
+    ] },
+    { name: "what-can-a-forecast-know", steps: [
+        { opens: "weather/lorenz", types: true, answer: (laboratory) => weatherOn(laboratory)[2][2], isAsked: (laboratory) => weatherOn(laboratory).length > 2 },
+        { types: true, answer: decimalsTold, isAsked: (laboratory) => decimalsTold(laboratory) !== null },
+        { opens: "weather/lorenz", types: true, answer: (laboratory) => weatherOn(laboratory).at(-1)[0], isAsked: ({ panel }) => panel.status === "waiting" },
+        { types: true, done: wasTypedAgain },
+        { types: true, answer: partsBy(20), isAsked: isPrintedAgain },
+        { answer: partsBy(100), isAsked: isPrintedAgain },
+        { opens: "weather/twins", types: true, answer: firstApart, isAsked: (laboratory) => nextMeeting(laboratory) !== null },
+        { answer: nextMeeting, isAsked: (laboratory) => nextMeeting(laboratory) !== null },
     ] },
 ];
 

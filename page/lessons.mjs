@@ -1,4 +1,4 @@
-// A lesson's steps as its document in docs/lessons has them: its heading, the paragraph before its first numbered list, the lists, and the paragraph after the last one. They are
+// A lesson's steps as its document in teaching/lessons has them: its heading, the paragraph before its first numbered list, the lists, and the paragraph after the last one. They are
 // written once, there; the page and the sheets are made from them.
 
 /** The paragraphs of a text, each as one line. */

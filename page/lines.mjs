@@ -14,7 +14,7 @@ export function headOf(script) {
         comments.push(line.replace(/^; ?/, ""));
     }
     const paragraphs = comments.join("\n").split(/\n\s*\n/).filter((paragraph) => paragraph.trim() !== "");
-    const title = /^([^.]*)\./.exec(paragraphs[0] ?? "")?.[1].replace(/\s+/g, " ") ?? "";
+    const title = /^([^]*?)\.(?=\s|$)/.exec(paragraphs[0] ?? "")?.[1].replace(/\s+/g, " ") ?? "";
     return { title, paragraphs };
 }
 

@@ -1,5 +1,5 @@
 // The page's end of the Worker: lines go out one after another, and each reply belongs to the oldest line that has none yet.
-import { NoMemory } from "./module/session.mjs";
+import { NoMemory } from "../libraries/javascript/session.mjs";
 
 /** A link to a Worker whose source is this text, with a session of a module, whose bytes are given packed as a text. */
 export class Link {

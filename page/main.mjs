@@ -4,41 +4,52 @@ import { Drafts } from "./drafts.mjs";
 import { Drive } from "./drive.mjs";
 import { withRemarks } from "./examples.mjs";
 import { Exhibit, KIOSK } from "./exhibit.mjs";
-import { linkOf } from "./files.mjs";
+import { exhibitIn } from "./exhibits.mjs";
+import { linkOf, unopened } from "./files.mjs";
 import { HandTurning } from "./hand_turning.mjs";
 import { Keeper, Sources, Works, shareTasks, takeOver } from "./keeper.mjs";
 import { Checker } from "./language.mjs";
 import { LESSONS, setUpFor } from "./lesson_steps.mjs";
-import { headOf, linesIn, withoutQuestions } from "./lines.mjs";
+import { headOf, linesIn, setUp, withoutQuestions } from "./lines.mjs";
 import { Link } from "./link.mjs";
-import { version } from "./module/package.json";
-import { addressOf, askedIn, inLanguage } from "./opening.mjs";
+import manifest from "../libraries/javascript/package.json";
+import { addressOf, askedIn, inLanguage, projected } from "./opening.mjs";
 import { movedSource, timesOf } from "./placing.mjs";
 import { PLACING_GAMES } from "./placing_game.mjs";
-import { Player } from "./player.mjs";
+import { Pieces } from "./pieces.mjs";
+import { Player, markAt } from "./player.mjs";
+import { Choice, Running } from "./running.mjs";
+import { isWorkFile, ordersIn, sentOf, workInFile, workInLink } from "./sending.mjs";
 import { Sound, follow } from "./sound.mjs";
 import { openStore } from "./store.mjs";
 import { makeAccounts, makeTime } from "./views/accounts.mjs";
 import { makeCarried } from "./views/carried.mjs";
-import { makeConsole, makeKeyboard } from "./views/console.mjs";
+import { makeConsole, makeKeyboard, makeShownBody } from "./views/console.mjs";
 import { makeCosts } from "./views/costs.mjs";
-import { button, h, memoized, part } from "./views/dom.mjs";
+import { button, h, memoized, part, tell } from "./views/dom.mjs";
+import { makeAddresses } from "./views/about.mjs";
 import { behind, makeDoors, makeHall, makeSkip, showDoor } from "./views/doors.mjs";
 import { makeDrum } from "./views/drum.mjs";
 import { makeTurner } from "./views/hand.mjs";
 import { isLeaving, makeKiosk, refuseOthers, watchIdle } from "./views/kiosk.mjs";
 import { makeHeap } from "./views/kiosk_game.mjs";
 import { makeLesson, noLesson } from "./views/lesson.mjs";
+import { linkToProjector, makeProjector } from "./views/projector.mjs";
 import { makeListing } from "./views/listing.mjs";
 import { makeMap } from "./views/map.mjs";
+import { makeMenu, shutBeside } from "./views/menu.mjs";
 import { makeNotices, placeNotices } from "./views/notice.mjs";
 import { hearDrops, makeOpen, openFile } from "./views/open_file.mjs";
 import { makePace } from "./views/pace.mjs";
 import { makePanel } from "./views/panel.mjs";
 import { makePaper, makeTape } from "./views/paper.mjs";
 import { PlacingGameView } from "./views/placing_game.mjs";
+import { makeRunning } from "./views/running.mjs";
+import { makeTakeHome, nodesOfSent } from "./views/sending.mjs";
 import { makeProfile } from "./views/profile.mjs";
 import { makePlate, makeScope } from "./views/scope.mjs";
+import { makeThumbs } from "./views/scrolling.mjs";
+import { makeSheet } from "./views/sheet.mjs";
 import { linksToSheet, showSheet, withDrawings } from "./views/sheets.mjs";
 import { makeSource } from "./views/source.mjs";
 import { arrange, makeStage } from "./views/stage.mjs";
@@ -60,17 +71,13 @@ const clocks = { now: () => performance.now(), sleep: (milliseconds) => new Prom
 /** Ends a task of the browser, so that it can hear what was pressed. */
 const turn = () => new Promise((resolve) => setTimeout(resolve));
 const inlined = (id) => document.getElementById(id).textContent;
-const examples = new Map(Object.entries(JSON.parse(inlined("examples"))));
-const remarks = JSON.parse(inlined("remarks"));
-const { sheets, drawings } = JSON.parse(inlined("sheets"));
-const tasks = JSON.parse(inlined("tasks"));
-const licences = JSON.parse(inlined("licences"));
+/** What the page has of the repository's examples, lessons and tasks, once it was unpacked. */
+let [examples, remarks, exampleSources, sheets, drawings, tasks, licences, exhibits] = [new Map(), {}, {}, {}, [], {}, "", new Map()];
 const openLink = () => new Link(inlined("worker"), inlined("module"));
 const drafts = new Drafts();
 const checker = new Checker(openLink);
-
-// lessons have their texts from their documents
-for (const [code, lessons] of Object.entries(JSON.parse(inlined("lessons")))) LANGUAGES[code].lessons = lessons;
+/** What was torn off of the paper of the work at hand. */
+const pieces = new Pieces({ of: () => drafts.of("pieces"), keep: (text) => drafts.keep("pieces", text) });
 
 /** Which work is at hand in this tab of the browser, so that another tab has its own. */
 const TAB = "condugwa-work";
@@ -88,6 +95,8 @@ let visitors = null;
 let exhibit = null;
 let picture = { frame: null, views: [], last: 0 };
 let endExhibit = () => {};
+/** Has the thumbs of what can be scrolled in their places. */
+let thumbs = () => {};
 let hasShortKeys = true;
 let isOperated = false;
 let hasTurns = true;
@@ -98,6 +107,8 @@ let begunWith = "{}";
 let setUpHere = null;
 /** Whether a work is being opened: what is there meanwhile is not that work. */
 let isSettling = false;
+/** Ends when the work at hand is there again, after the page was loaded anew: what begins another one waits for that. */
+let restored = Promise.resolve();
 /** What is done one after another: going through doors, and what begins another laboratory. */
 let going = Promise.resolve();
 let opening = Promise.resolve();
@@ -160,10 +171,14 @@ function show() {
     notices.show();
     showProgress(laboratory);
     if (panel !== null) for (const view of views) view.show();
+    thumbs();
 }
 
 /** An example with its comments in the language of the page, where that has them. */
 const exampleNamed = (name) => withRemarks(examples.get(name), remarks[texts.code]?.[name] ?? []);
+
+/** The source that stands beside the open example where its script puts words in, in the language of the page; else "". */
+const sourceBeside = () => exampleSources[texts.code]?.[laboratory.script?.name] ?? "";
 
 /** Goes on in another language; an example that is open has its comments in that as well. Where a control had the focus, the one of this name has it then. */
 function goOnIn(code, id) {
@@ -206,6 +221,7 @@ function beginWork(texts) {
     const before = works.begin();
     sessionStorageOf()?.setItem(TAB, works.id);
     drafts.restore(texts);
+    pieces.anew();
     begunWith = JSON.stringify(drafts.all);
     return before;
 }
@@ -227,6 +243,7 @@ function beginAnother(action, { keepsSource = false, isOffered = true } = {}) {
 
 /** Goes back to a work, with all that stood beside its machine. */
 async function openWork(work) {
+    await restored;
     keepWork();
     isSettling = true;
     works.id = work.id;
@@ -252,6 +269,7 @@ function standAt(work) {
 }
 
 async function openExample(name) {
+    await restored;
     if (door !== "work") await goTo("work", false);
     await beginAnother(() => laboratory.openScript(name, exampleNamed(name)));
     tellPlace();
@@ -259,18 +277,71 @@ async function openExample(name) {
 
 /** Opens what was saved: all its lines are done. */
 async function openSaved(name, script) {
+    await restored;
     if (door !== "work") await goTo("work", false);
     await beginAnother(() => laboratory.openSaved(name, script));
     tellPlace();
 }
 
+/** The texts that an example has in the page's languages, each with its language. */
+const editionsOf = (name) => (examples.has(name) ? Object.keys(LANGUAGES).map((code) => [code, withRemarks(examples.get(name), remarks[code]?.[name] ?? [])]) : []);
+
+/** What of a work is sent, and with a task its source. Only Work and Learn are opened so: a story is led to by its own address. */
+const sentOfWork = (work) => sentOf({ ...work, door: work.door === "learn" ? "learn" : "work", source: work.task === null ? null : sources.of(work.task), isPaperUp: work.id === works.id && parts.sheet.isUp }, editionsOf);
+
+/** Shows a work to be sent. */
+async function share(work) {
+    dialog(texts.text("share"), h("p", {}, texts.text("sentHint")), ...await nodesOfSent(sentOfWork(work), texts, location));
+}
+
+/** Opens what somebody has sent as another work beside the one at hand; where it cannot be opened, that is told. `go` leads through a door. One that would take long is opened up to its first run. */
+async function openSent({ work, wrong }, go) {
+    if (wrong !== null) return laboratory.tell({ kind: "wrongSent", wrong });
+    await restored;
+    if (door !== work.door) await go(work.door, false);
+    const isLong = ordersIn(work.lines) > MOST_AGAIN;
+    await beginAnother(async () => {
+        isSettling = true;
+        if (work.task !== null && work.source !== null) sources.begin(work.task);
+        if (work.task !== null) sources.keep(work.task, work.source);
+        standAt(work);
+        await (isLong ? laboratory.openScript("#work", work.lines) : laboratory.restore(work));
+        isSettling = false;
+    });
+    lay();
+    parts.lesson.goOn();
+    parts.sheet.toggle(work.isPaperUp);
+    tellOpened();
+    return isLong ? laboratory.tell({ kind: "sentLong", most: MOST_AGAIN, work: laboratory.notice?.work }) : undefined;
+}
+
+/** What a link has held is open: the address names the place, so that the page when loaded again has the work as it was left, and not once more what was sent. */
+function tellOpened() {
+    history.replaceState(null, "", addressOf(placeNow(), location));
+    noteWork();
+}
+
 /** A blank machine; the source stays in its field. */
 async function openBlank() {
+    await restored;
     await beginAnother(() => laboratory.new(), { keepsSource: true });
     tellPlace();
 }
 
-const openDropped = (file) => openFile(file, laboratory, openSaved);
+/** A folder, or several files, on a task are those of a class; else the first file is opened. */
+function openDropped(files, isFolder) {
+    const isClass = door === "learn" && sources.open !== null && (isFolder || files.length > 1);
+    return isClass ? parts.tasks.checkAll(files, dialog) : openFile(files[0].file, laboratory, openSaved, openObject);
+}
+
+/** Opens a file in JSON: a work that was sent, or an exhibit at the kiosk; the address has that in itself then. A wrong one is told. */
+async function openObject(text) {
+    if (isWorkFile(text)) return openSent(await workInFile(text, editionsOf), goTo);
+    const { exhibit: file, wrong } = exhibitIn(text, (name) => examples.has(name));
+    if (wrong !== null) return laboratory.tell({ kind: "wrongExhibit", detail: wrong });
+    history.pushState(null, "", `${location.search || "?"}#exhibit=${encodeURIComponent(JSON.stringify(file))}`);
+    return followAddress();
+}
 
 /** Opens an example that the page shows by itself, and sets it going. */
 const openShown = (name) => (isWorth(laboratory) ? beginAnother(() => setUpFor(laboratory, { opens: name }, exampleNamed)) : setUpShown({ opens: name }));
@@ -282,6 +353,7 @@ function setUpShown(step) {
 
 /** Sets the machine up for a step of a lesson. One that was set up so before, and at which the pupil has done nothing since, is no work of its own. */
 async function openForStep(step) {
+    await restored;
     drive.halt();
     const isUntouched = works.id === setUpHere && laboratory.doings === 0;
     if (isUntouched) drafts.keep("carried", null);
@@ -290,11 +362,12 @@ async function openForStep(step) {
 }
 
 /** Sets the machine up by a script of a task. */
-const openForTask = (name, script) => beginAnother(() => laboratory.openScript(name, script), { isOffered: false });
+const openForTask = (name, script) => restored.then(() => beginAnother(() => laboratory.openScript(name, script), { isOffered: false }));
 
-/** Loads a source, starts it and runs it; with a fault nothing is run. */
+/** Loads a source, starts it and runs it; with a fault, or without a source, nothing is run. */
 async function runProgram(source) {
     drive.halt();
+    if (source.trim() === "") return laboratory.tell({ kind: "noSourceToRun" });
     await laboratory.load(source);
     if (laboratory.notice !== null) return undefined;
     if (laboratory.way.kind === "start") await laboratory.command("press start");
@@ -335,6 +408,12 @@ async function pass(wanted, isNew) {
     show();
     if (isNew) tellPlace();
     if (isOther && wanted === "hall") await openHall();
+    if (isNew && isOther && wanted === "look" && !isWorth(visitors)) beginTales();
+}
+
+/** Look begins by itself with its first story, unless one is open, or the game. Who comes from Work or Learn finds the machine as it was there. */
+function beginTales() {
+    if (door === "look" && viewer.tale === null && game === null) parts.tales.openAt(1, null);
 }
 
 /** Shows what is seen behind the door, and asks of the machine what is seen there. */
@@ -348,15 +427,17 @@ function placeDoor() {
     if (isPlayed) parts.faster.begin(game);
     else parts.faster?.stop();
     for (const name of isKiosk ? ["door", "window"] : ["state"]) delete document.body.dataset[name];
+    if (!isKiosk || !(exhibit instanceof Running)) for (const name of ["exhibit", "beside", "scene", "busy"]) delete document.body.dataset[name];
     if (!isKiosk) { showDoor(door); arrange(); }
     placeNotices(isKiosk || door === "hall" || isPlayed ? null : document.querySelector(".tells"));
 }
 
 function dialog(heading, ...children) {
     const node = h("dialog", { "aria-label": heading }, h("h2", {}, heading), ...children, button(texts.text("close"), () => node.close()));
-    node.addEventListener("close", () => node.remove());
+    node.addEventListener("close", () => { node.remove(); thumbs(); });
     document.body.append(node);
     node.showModal();
+    thumbs();
 }
 
 /** A link under which a script is saved. */
@@ -384,7 +465,7 @@ async function save() {
 function about() {
     const wanted = h("input", { type: "checkbox", id: "short-keys", checked: hasShortKeys, onchange: () => { hasShortKeys = wanted.checked; } });
     const ours = h("details", { id: "notices-of-all" }, h("summary", {}, texts.text("licences")), h("pre", { class: "transcript", lang: "en", tabindex: "0", role: "group", "aria-label": texts.text("licences") }, licences));
-    dialog(texts.text("about"), ...texts.table.aboutText.map((paragraph) => h("p", {}, paragraph)), ours, h("p", {}, texts.text("version", { version })), h("p", {}, h("label", {}, wanted, ` ${texts.text("shortKeys")}`)));
+    dialog(texts.text("about"), ...texts.table.aboutText.map((paragraph) => h("p", {}, paragraph)), ours, h("p", {}, texts.text("version", manifest)), ...makeAddresses(manifest, texts), h("p", {}, h("label", {}, wanted, ` ${texts.text("shortKeys")}`)));
 }
 
 /** What is played, as long as it leads to where the machine stands; in slow motion up to the next order. */
@@ -399,6 +480,9 @@ function held() {
     const at = playing();
     return at === null || at.done ? null : at.account;
 }
+
+/** The order under way, of which list, pins, register, hub and caption speak alike. */
+const markNow = () => markAt({ played: playing(), last: laboratory.lastTold, panel: laboratory.panel });
 
 /** Draws what moves picture by picture, as long as an order is played. When it has ended, what it has done is shown. */
 function animate() {
@@ -434,7 +518,7 @@ function makeSoundSwitch() {
     return control;
 }
 
-/** The bar at the top. It names the example that is open in Work; one that the hall, a story or a lesson shows is not named, so that it can be chosen. */
+/** The menu at the top, and the name of the work. It names the example that is open in Work; one that the hall, a story or a lesson shows is not named, so that it can be chosen. */
 function makeBar() {
     const { text } = texts;
     const choice = h("select", { id: "example", "aria-label": text("openExample"), onchange: () => examples.has(choice.value) && openExample(choice.value) },
@@ -442,30 +526,21 @@ function makeBar() {
         ...[...examples.keys()].map((name) => h("option", { value: name }, `${name}: ${headOf(exampleNamed(name)).title}`)));
     const language = h("select", { id: "language", "aria-label": "Language, Sprache", onchange: () => goOnIn(language.value, "language") },
         ...Object.entries(LANGUAGES).map(([code, table]) => h("option", { value: code, selected: code === texts.code }, table.language)));
-    const view = { node: h("div", { class: "line choices", id: "choices", role: "toolbar", "aria-label": text("choices") }, choice, behind("work", button(text("new"), openBlank, { id: "new", title: text("newHint") })), behind("work", button(text("save"), save, { title: text("saveHint"), id: "save" })), behind("work", makeOpen(texts, openDropped)), behind("learn work", button(text("works"), showWorks, { id: "works", title: text("worksHint") })),
-        makeSoundSwitch(), button(text("kiosk"), openKiosk, { id: "kiosk" }), button(text("about"), about, { id: "about" }), language),
-        show: () => { choice.value = placeNow().example ?? ""; } };
-    return view;
-}
-
-/** Where the window is narrow the choices are seen when they are wanted, as long as the focus is among them. */
-function makeMenu(choices) {
-    const show = (isOpen) => {
-        document.querySelector("header").classList.toggle("is-open", isOpen);
-        control.setAttribute("aria-expanded", String(isOpen));
+    const name = h("p", { class: "work-name" });
+    const begins = [behind("work", button(text("new"), openBlank, { id: "new", title: text("newHint") })), behind("work", makeOpen(texts, openDropped)), behind("work", button(text("save"), save, { title: text("saveHint"), id: "save" })),
+        behind("learn work", button(text("share"), () => share({ ...workOf(visitors), id: works.id }), { title: text("shareHint"), id: "share" })), behind("learn work", button(text("works"), showWorks, { id: "works", title: text("worksHint") }))];
+    const menu = makeMenu(texts, [begins, [choice], [makeSoundSwitch(), button(text("kiosk"), openKiosk, { id: "kiosk" }), language], [button(text("about"), about, { id: "about" })]], ["sound", "language"]);
+    const show = () => {
+        choice.value = placeNow().example ?? "";
+        tell(name, ["learn", "work"].includes(door) ? titleOf(laboratory, pupil, sources, texts) : "");
     };
-    const control = button(texts.text("choices"), () => show(control.getAttribute("aria-expanded") === "false"), { class: "menu", "aria-expanded": "false", "aria-controls": "choices" });
-    for (const node of [control, choices]) {
-        node.addEventListener("focusout", ({ relatedTarget }) => { if (relatedTarget !== null && relatedTarget !== control && !choices.contains(relatedTarget)) show(false); });
-        node.addEventListener("keydown", ({ key }) => { if (key === "Escape") show(false); });
-    }
-    return control;
+    return { name, menu, show };
 }
 
 /** The list of the last works. */
 function showWorks() {
     keepWork();
-    const list = listOfWorks(works, texts, (work) => { list.closest("dialog").close(); openWork(work); });
+    const list = listOfWorks(works, texts, (work) => { list.closest("dialog").close(); openWork(work); }, (work) => { list.closest("dialog").close(); share(work); });
     dialog(texts.text("works"), list);
 }
 
@@ -481,12 +556,21 @@ function makeExplanation() {
 }
 
 /** What the views ask: what is played, what it has not done yet, whether the drum turns too fast to be read, the pace, whether nothing may move, and whether the costs of a word are seen. */
-const showing = { playing, held, isFast: () => drive.pace === "own" || drive.pace === "fast", pace: () => drive.pace, isStill: () => still.matches, isAttract: () => exhibit?.isAttract ?? false, hasCosts: () => ["learn", "work"].includes(door) };
+const showing = { playing, held, markNow, isFast: () => drive.pace === "own" || drive.pace === "fast" || (isKiosk && (exhibit?.isFast ?? false)), pace: () => (isKiosk && exhibit?.pace === 1 ? "own" : drive.pace), isStill: () => still.matches, isAttract: () => exhibit?.isAttract ?? false, hasCosts: () => ["learn", "work"].includes(door) };
 
 /** The links to a lesson's sheet; its form is what a printer gets. */
 const sheetOf = (name) => withDrawings((sheets[texts.code] ?? sheets.en)[name], drawings);
-const sheetsOf = (name) => [...linksToSheet(sheetOf(name), texts), ...(name === "where-a-word-costs-least" ? [" ", linkToRace()] : [])];
+const sheetsOf = (name) => [...linksToSheet(sheetOf(name), texts), ...(name === "where-a-word-costs-least" ? [" ", linkToRace()] : []), " ", linkToProjector(texts, project)];
 const linkToRace = () => h("a", { id: "race", href: addressOf({ game: "race" }, location), onclick: (event) => { event.preventDefault(); openRace(); } }, texts.text("race"));
+
+/** Whether a lesson is seen as a projector shows it, which the address says. */
+const isProjected = () => !isKiosk && placeNow().lesson != null && askedIn(location).isProjected;
+
+function project(isOn) {
+    history.pushState(null, "", projected(isOn, location));
+    show();
+    document.getElementById(isOn ? "step-next" : "to-projector").focus();
+}
 
 /** Asks for the costs of a word, and chooses the tab that tells them. */
 function showCosts(address) {
@@ -494,31 +578,44 @@ function showCosts(address) {
     return laboratory.askCosts(address);
 }
 
+/** What of the paper is in the machine. A machine that nothing was done with has an empty one, of which nothing was torn off. */
+function restOfPaper(text, typed) {
+    if (text === "" && laboratory === visitors && laboratory.lines.length === 0 && !isSettling) pieces.anew();
+    return laboratory === visitors ? pieces.rest(text, typed) : { text, typed };
+}
+
+/** Prints a page alone; what a printer got before it gets again after that. */
+function printPage(page) {
+    showSheet(page);
+    const name = pupil.lesson?.name;
+    addEventListener("afterprint", () => showSheet(name === undefined ? null : sheetOf(name)), { once: true });
+    globalThis.print();
+}
+
 /** All parts but the header, and the element that holds them in the order in which they are seen. */
 function makeWork() {
     const open = { sources, openLink, checker, setUp: openForTask, run: () => drive.go(drive.chosen) };
     const madeTasks = makeTasks(texts, tasks, open);
-    const source = makeSource(laboratory, texts, drafts, { runIt: runProgram, checker, told: () => show(), isFast: showing.isFast });
+    const source = makeSource(laboratory, texts, drafts, { runIt: runProgram, checker, told: () => show(), markNow, stop: () => drive.halt(), given: sourceBeside });
     const time = makeTime(laboratory, texts, showing);
     const turns = makeTurns(laboratory, texts, hasTurns, (isOpen) => { hasTurns = isOpen; });
     const made = {
-        hall: makeHall(texts, goTo, drive), tales: makeTales(laboratory, texts, drive, { open: openShown, viewer, told: toldOfTale, others: [gameButton(false)] }), faster: makeGame(), lesson: makeLesson(laboratory, texts, { open: openForStep, pupil, tasks: madeTasks, drafts, told: toldOfLesson, sheets: sheetsOf, isSeen: () => door === "learn" }), tasks: madeTasks,
+        hall: makeHall(texts, goTo, drive), tales: makeTales(laboratory, texts, drive, { open: openShown, viewer, told: toldOfTale, others: [gameButton(false)], after: { name: texts.text("faster"), open: () => openGame("faster") } }), faster: makeGame(), lesson: makeLesson(laboratory, texts, { open: openForStep, pupil, tasks: madeTasks, drafts, told: toldOfLesson, sheets: sheetsOf, isSeen: () => door === "learn" }), tasks: madeTasks,
         drum: makeDrum(laboratory, texts, showing), plate: makePlate(laboratory, texts), scope: makeScope(laboratory, texts, showing), panel: makePanel(laboratory, texts), console: makeConsole(laboratory, texts),
-        paper: makePaper(laboratory, texts, showing), tape: makeTape(laboratory, texts, drafts, showing), keyboard: makeKeyboard(laboratory, texts),
-        pace: makePace(laboratory, texts, drive, { run: source.run, when: time.when, faults: () => (door === "work" ? source.faults() : null) }), time, operated: makeOperated(), story: makeStory(laboratory, texts, showing), accounts: makeAccounts(laboratory, texts, showing), listing: makeListing(laboratory, texts, showing, drafts), costs: makeCosts(laboratory, texts), map: makeMap(laboratory, texts, showing, showCosts),
-        explanation: makeExplanation(), noScript: h("p", { class: "no-script" }, texts.text("noScript")), script: makeScript(laboratory, texts), source, lines: makeLines(laboratory, texts, drafts),
+        paper: makePaper(laboratory, texts, showing, restOfPaper), sheet: makeSheet(laboratory, texts, pieces, { print: printPage, changed: show }), tape: makeTape(laboratory, texts, drafts, showing), keyboard: makeKeyboard(laboratory, texts, showing),
+        pace: makePace(laboratory, texts, drive, { run: source.run, when: time.when, faults: () => (door === "work" ? source.faults() : null) }), time, operated: makeOperated(), story: makeStory(laboratory, texts, showing), accounts: makeAccounts(laboratory, texts, showing, (account) => parts.story.why(account)), listing: makeListing(laboratory, texts, showing, drafts), costs: makeCosts(laboratory, texts), map: makeMap(laboratory, texts, showing, showCosts),
+        explanation: makeExplanation(), noScript: h("p", { class: "no-script" }, texts.text("noScript")), projector: makeProjector(texts, isProjected, project), script: makeScript(laboratory, texts), source, lines: makeLines(laboratory, texts, drafts),
         profile: makeProfile(laboratory, texts, drafts), turns,
     };
     const turning = turningOf();
     made.turner = makeTurner(made.drum.box, texts, turning);
-    made.carried = makeCarried(laboratory, texts, made.drum, turning, drafts, writeMoved);
+    made.carried = makeCarried(laboratory, texts, made.drum, turning, drafts, writeMoved, () => reveal(parts.costs?.node));
     made.costs.node.append(made.carried.node);
     parts = made;
     return { node: makeStage(made, texts), made: Object.values(made).filter(({ show }) => show !== undefined) };
 }
 
-/** Writes into the source that words are at other sectors, runs that as long as it ran before, and tells whether it took what was foretold: from where its first order was read on, since the
- * loader ends where it ends. */
+/** Writes into the source that words are at other sectors, runs that as long as it ran before, and tells whether it took what was foretold. */
 async function writeMoved(placing, orders, nameOf) {
     const [source, foretold] = [drafts.of("source") ?? laboratory.source, placing.times];
     const words = placing.moved.map((address) => ({ address, sector: placing.sectorOf(address), word: nameOf(address) }));
@@ -536,7 +633,7 @@ async function writeMoved(placing, orders, nameOf) {
     await showCosts(places[0].place);
     // its part was hidden as long as there were no costs
     if (hasFocus) document.getElementById("write-moved").focus();
-    return laboratory.tell({ kind: "moved", words: places, foretold: foretold - accounts[0].find, took: timesOf(again.accounts) - again.accounts[0].find });
+    return laboratory.tell({ kind: "moved", words: places, foretold, took: timesOf(again.accounts), waited: { now: again.accounts[0].find, before: accounts[0].find } });
 }
 
 /** The hand at the drum of the machine that is seen. */
@@ -544,7 +641,25 @@ function turningOf() {
     const turning = new HandTurning(laboratory, player, drive);
     turning.addEventListener("turn", () => { for (const view of picture.views) view.frame(); });
     turning.addEventListener("rest", show);
+    goOnInHall(turning);
     return turning;
+}
+
+/** How long after a hand has let the hall's drum go it goes on, in milliseconds. */
+const HALL_AFTER = 4000;
+
+/** In the hall the drum goes on by itself a while after a hand has taken it, where it was going before. */
+function goOnInHall(turning) {
+    let [wasGoing, timer] = [false, null];
+    turning.addEventListener("take", () => { wasGoing ||= drive.pace !== null; });
+    turning.addEventListener("rest", () => {
+        clearTimeout(timer);
+        timer = setTimeout(() => {
+            const isWanted = wasGoing && door === "hall" && !isKiosk && drive.pace === null;
+            wasGoing = false;
+            if (isWanted) drive.go("slow");
+        }, HALL_AFTER);
+    });
 }
 
 /** What the program of a game takes, asked once of a laboratory that has nothing else to do; null where it could not be run. */
@@ -610,18 +725,40 @@ function toldOfLesson() {
 /** What the kiosk opens beside its machine, by the names of its offers: each has its `node`, `open`, `press`, which is given the number of a button and says whether it goes on, and `labels`, the names of its buttons' texts. */
 const kioskViews = { faster: null };
 
+/** A program that runs at the kiosk: drum and typewriter. */
+function makeRunningExhibit() {
+    const { pieces: torn } = exhibit;
+    const made = { drum: makeDrum(laboratory, texts, showing), paper: makePaper(laboratory, texts, showing, (text, typed) => torn.rest(text, typed)), deck: makeShownBody(laboratory, texts, showing) };
+    for (const node of [made.drum.node, made.paper.node]) node.querySelector("h2").classList.add("unseen");
+    return makeRunning(laboratory, texts, exhibit, made, makeOthers());
+}
+
+/** What is at the kiosk, to be taken home: as far as it has come, or else its program before the start. */
+function worksToTake() {
+    const { script, lines } = laboratory;
+    const [name, work] = [script?.name ?? null, { door: "work", script, drafts: {}, task: null, source: null, pupil: null, isPaperUp: false }];
+    return { sent: [lines, lines.slice(0, setUp(lines, true))].map((all) => sentOf({ ...work, lines: all.join("\n") }, editionsOf)), name: examples.has(name) ? name : null };
+}
+
+/** The small controls of the kiosk, and what they open. */
+function makeOthers() {
+    parts.takeHome = makeTakeHome(texts, worksToTake, location);
+    return [makeSoundSwitch(), parts.takeHome.control, parts.takeHome.node];
+}
+
 function makeExhibit() {
-    const made = { drum: makeDrum(laboratory, texts, showing), scope: makeScope(laboratory, texts, showing), heap: makeHeap(laboratory, texts), paper: makePaper(laboratory, texts, showing) };
+    if (exhibit instanceof Running) return makeRunningExhibit();
+    const made = { drum: makeDrum(laboratory, texts, showing), scope: makeScope(laboratory, texts, showing), heap: makeHeap(laboratory, texts), paper: makePaper(laboratory, texts, showing), deck: makeShownBody(laboratory, texts, showing) };
     for (const node of [made.drum.node, made.paper.node]) node.querySelector("h2").classList.add("unseen");
     kioskViews.faster = new PlacingGameView(texts, { ask: (program) => askGame(program.name, program), kept: { of: () => null, keep: () => {} }, isStill: () => still.matches, seconds: Infinity, others: () => [] });
     if (exhibit.state === "faster") kioskViews.faster.open();
-    return makeKiosk(laboratory, texts, { ...showing, drive }, exhibit, made, [makeSoundSwitch()], kioskViews);
+    return makeKiosk(laboratory, texts, { ...showing, drive }, exhibit, made, makeOthers(), kioskViews);
 }
 
 function makePage() {
     const { text } = texts;
     const top = makeBar();
-    const heading = h("header", {}, behind("look learn work", makeSkip(texts)), h("h1", {}, text("title")), h("p", { class: "subtitle" }, text("subtitle")), makeDoors(texts, goTo), makeMenu(top.node), top.node);
+    const heading = h("header", {}, behind("look learn work", makeSkip(texts)), h("h1", {}, text("title")), h("p", { class: "subtitle" }, text("subtitle")), top.name, makeDoors(texts, goTo), top.menu.control, top.menu.list);
     const { node, made } = makeWork();
     return { nodes: [heading, node], views: [top, ...made] };
 }
@@ -656,31 +793,70 @@ async function layInTurns() {
     const placed = makeAll();
     await turn();
     placed();
+    document.body.dataset.laying = "true";
     notices.show();
     for (const view of [...views]) {
         await turn();
         view.show();
     }
+    delete document.body.dataset.laying;
 }
 
 /** Lays the page anew. Where a control had the focus, the one of this name has it then, or the door. */
 function layFor(id) {
     const hadFocus = document.activeElement !== document.body;
     lay();
-    if (hadFocus) (document.getElementById(id) ?? document.querySelector(".doors [aria-current]"))?.focus();
+    if (hadFocus) [document.getElementById(id), document.querySelector(".menu"), document.querySelector(".doors [aria-current]")].find((it) => it?.checkVisibility())?.focus();
+}
+
+/** What an exhibit needs of the page. `home` leads back to the screen on which it was chosen. */
+const kioskSettings = (home = null) => ({ scriptOf: (name) => (examples.has(name) ? exampleNamed(name) : undefined), isStill: () => still.matches, ...clocks, home, language: () => goOnIn(texts.code === "de" ? "en" : "de", "kiosk-4") });
+
+/** The story of an example, with its games. */
+const storyOf = (name, offers, home = null) => new Exhibit(laboratory, drive, name, { ...kioskSettings(home), offers, views: kioskViews });
+
+/** What is offered at the kiosk after its exhibits, each with the button of its story that begins it. */
+const OTHERS = [{ name: "story", label: "kioskStory", press: 1 }, { name: "faster", label: "kioskFaster", press: 2 }, { name: "matches", label: "kioskMatches", press: 3 }, { name: "language", label: "kioskLanguage" }];
+
+/** The screen on which an exhibit is chosen. */
+const choiceOfAll = () => new Choice(laboratory, drive, { files: exhibits, others: OTHERS, open: openChosen }, kioskSettings());
+
+/** What the address asks the kiosk for: an exhibit that it has in itself, one of the page's, the story of an example, or, where it names none, the screen on which one is chosen. */
+function exhibitAsked() {
+    const { exhibit: file, example, offers } = asked;
+    const own = file === null ? null : exhibitIn(file, (name) => examples.has(name));
+    if (own?.wrong === null) return new Running(laboratory, drive, own.exhibit, kioskSettings());
+    if (exhibits.has(example)) return new Running(laboratory, drive, exhibits.get(example), kioskSettings());
+    return example === null && offers === null ? choiceOfAll() : storyOf(example, offers);
+}
+
+/** From now on this is at the kiosk. */
+function turnKioskTo(made) {
+    exhibit?.leave();
+    exhibit = made;
+    exhibit.addEventListener("change", show);
+    layFor("kiosk-1");
+}
+
+/** Opens what was chosen; from its end it leads back to the choice. */
+function openChosen(name) {
+    if (name === "language") return kioskSettings().language();
+    const home = () => { turnKioskTo(choiceOfAll()); return exhibit.attract(); };
+    turnKioskTo(exhibits.has(name) ? new Running(laboratory, drive, exhibits.get(name), kioskSettings(home)) : storyOf(name === "story" ? HALL_EXAMPLE : KIOSK.example, null, home));
+    return exhibit.press(OTHERS.find((other) => other.name === name)?.press ?? 1);
 }
 
 /** Begins the exhibit, which plays by itself until somebody takes over. */
 async function beginExhibit() {
     await use("shown");
-    exhibit = new Exhibit(laboratory, drive, asked.example, { scriptOf: (name) => (examples.has(name) ? exampleNamed(name) : undefined), isStill: () => still.matches, sleep: clocks.sleep, offers: asked.offers, views: kioskViews, language: () => goOnIn(texts.code === "de" ? "en" : "de", "kiosk-4") });
-    exhibit.addEventListener("change", show);
+    turnKioskTo(exhibitAsked());
     const own = texts;
-    layFor("kiosk-1");
     const endWatch = watchIdle(asked.idleSeconds ?? KIOSK.idleSeconds, () => { if (!exhibit.isAttract || texts !== own) returnToBeginning(own); }, ({ type, target }) => { if (type === "click" && target.closest("button") === null) exhibit.takeOver(); });
     const endRefusing = refuseOthers();
-    endExhibit = () => { endWatch(); endRefusing(); exhibit.end(); exhibit = null; endExhibit = () => {}; };
-    await exhibit.attract();
+    endExhibit = () => { endWatch(); endRefusing(); exhibit.leave(); exhibit = null; endExhibit = () => {}; };
+    const wrong = asked.exhibit === null ? null : exhibitIn(asked.exhibit, (name) => examples.has(name)).wrong;
+    // what is wrong stands until somebody presses a button: what plays would take it away
+    await (wrong === null ? exhibit.attract() : laboratory.tell({ kind: "wrongExhibit", detail: wrong }));
 }
 
 /** Nobody has touched the kiosk for a while: it is as it was for the first visitor, in its own language and without sound. */
@@ -713,8 +889,9 @@ async function leaveKiosk() {
 /** Does what a key does anywhere in Work. Whether it does something. */
 function onWorkKey(event) {
     const { card, run } = parts.source;
+    const { sheet } = parts;
     const name = [event.ctrlKey ? "Ctrl" : "", event.shiftKey ? "Shift" : "", event.key].filter((part) => part !== "").join(" ");
-    const action = { F1: card.toggle, "Ctrl Enter": () => run.click(), F10: () => drive.step(), "Shift F10": () => laboratory.back(1), ...(card.isOpen() ? { Escape: card.close } : drive.pace === null ? {} : { Escape: () => drive.halt() }) }[name];
+    const action = { F1: card.toggle, "Ctrl Enter": () => run.click(), F10: () => drive.step(), "Shift F10": () => laboratory.back(1), F4: () => sheet.toggle(), ...(sheet.isUp ? { Escape: () => sheet.escape() } : card.isOpen() ? { Escape: card.close } : drive.pace === null ? {} : { Escape: () => drive.halt() }) }[name];
     if (action === undefined || event.defaultPrevented || event.target.closest("dialog") !== null) return false;
     event.preventDefault();
     action();
@@ -725,10 +902,11 @@ function onKey(event) {
     if (isKiosk) {
         const number = Number(event.key);
         if (isLeaving(event)) { history.replaceState(null, "", addressOf(placeNow(), location)); followAddress(); }
+        else if (parts.takeHome?.isOpen()) { if (number >= 1 && number <= 4) parts.takeHome.shut(); }
         else if (number >= 1 && number <= 4 && !event.repeat) exhibit?.press(number);
         return;
     }
-    if (placeNow().game !== null) return;
+    if (placeNow().game !== null || parts.projector.onKey(event)) return;
     if (door === "work" && hasShortKeys && onWorkKey(event)) return;
     if (event.target.closest("input, .CodeMirror, select, dialog") || event.ctrlKey || event.altKey || event.metaKey) return;
     const go = (pace) => () => { drive.chosen = pace; drive.go(pace); };
@@ -749,28 +927,31 @@ function wrongIn({ lesson, task, story, game, example, script }) {
     if (task !== null && !parts.tasks.has(task)) return { kind: "noTask", detail: task, tasks: Object.keys(tasks.tasks) };
     if (story !== null && TALES[story - 1] === undefined) return { kind: "noStory", detail: story };
     if (game !== null && !PLACING_GAMES.has(game)) return { kind: "noGame", detail: game };
+    const wrong = script === null ? null : unopened(script, (command) => laboratory.knows(command));
+    if (wrong !== null) return { kind: "wrongSent", wrong: wrong === "fileTooLong" ? "tooLong" : "broken" };
     return script === null && example !== null && !examples.has(example) ? { kind: "noExample", detail: example } : null;
 }
 
 /** Opens what the address asks for behind its door. What it names and is not there is told. */
 function openAsked() {
+    if (asked.work !== null) return workInLink(asked.work, editionsOf).then((sent) => openSent(sent, pass));
     const wrong = wrongIn(asked);
     if (wrong !== null) return laboratory.tell(wrong);
     if (asked.lesson !== null || asked.task !== null) return parts.lesson.openAt(asked);
     if (asked.story !== null) return parts.tales.openAt(asked.story, asked.caption);
     if (asked.game !== null) return openGame(asked.game);
-    if (asked.script !== null) return beginAnother(() => laboratory.openScript("#script", asked.script));
-    if (asked.example === null) return door === "hall" ? openHall() : undefined;
+    if (asked.script !== null) return beginAnother(() => laboratory.openScript("#script", asked.script)).then(tellOpened);
+    if (asked.example === null) return door === "hall" ? openHall() : beginTales();
     return beginAnother(() => laboratory.openScript(asked.example, exampleNamed(asked.example)));
 }
 
 /** Whether what the address asks for is there already. */
-function isThere({ lesson, step, task, story, caption, game, script, example }) {
+function isThere({ lesson, step, task, story, caption, game, script, work, example }) {
     const now = placeNow();
     if (game !== now.game) return false;
     if (story !== null) return now.story === story && now.caption === (caption ?? 1);
     if (lesson !== null) return now.lesson === lesson && now.step === (step ?? 1);
-    return script === null && (now.task ?? null) === task && (now.lesson ?? null) === null && (example ?? null) === (now.example ?? null);
+    return script === null && work === null && (now.task ?? null) === task && (now.lesson ?? null) === null && (example ?? null) === (now.example ?? null);
 }
 
 /** The address has changed: Back, Forward, or a link. The page goes there. */
@@ -790,10 +971,11 @@ async function goWhereAsked() {
     }
     if (before) await leaveKiosk();
     if (asked.door !== door) await pass(asked.door, false);
+    parts.projector?.show();
     if (door === "hall" || isThere(asked)) return undefined;
     // a door alone, without what was open behind it, leaves that as it is
     if (game !== null && asked.game === null) turnToGame(null);
-    const isDoorAlone = ["lesson", "task", "story", "game", "script", "example"].every((name) => asked[name] === null);
+    const isDoorAlone = ["lesson", "task", "story", "game", "script", "work", "example"].every((name) => asked[name] === null);
     return isDoorAlone ? undefined : openAsked();
 }
 
@@ -821,7 +1003,7 @@ async function openKept() {
 }
 
 /** Goes on with a work where the page was loaded again, or with what the address asks for. A work that would take long is offered. */
-async function goOnWith(work) {
+async function goOnWith(work, isThereAgain) {
     if (work === null) return openAsked();
     isSettling = true;
     standAt(work);
@@ -830,16 +1012,28 @@ async function goOnWith(work) {
     if (isLong) works.begin();
     else await visitors.restore(work);
     isSettling = false;
+    isThereAgain();
     await layInTurns();
     if (isLong) offer(work);
     if (door === "hall") return openHall();
-    return wrongIn(asked) === null && (isThere(asked) || asked.door === "work" && asked.example === null && asked.script === null) ? parts.lesson.goOn() : openAsked();
+    return wrongIn(asked) === null && (isThere(asked) || asked.door === "work" && asked.example === null && asked.script === null && asked.work === null) ? parts.lesson.goOn() : openAsked();
 }
 
 /** Offers a work that is kept. */
 const offer = (work) => makeOffer(work, texts, { open: openWork, forget: (id) => works.forget(id) });
 
+/** Unpacks what the page has of the repository; lessons have their texts from their documents. */
+function openTexts() {
+    const { lessons, exhibits: files, ...kept } = JSON.parse(globalThis.unpackedText(inlined("texts")));
+    exhibits = new Map(Object.entries(files));
+    ({ remarks, sources: exampleSources, sheets, drawings, tasks, licences } = kept);
+    examples = new Map(Object.entries(kept.examples));
+    for (const [code, named] of Object.entries(lessons)) LANGUAGES[code].lessons = named;
+}
+
 async function begin() {
+    await turn();
+    openTexts();
     await turn();
     if (!isKiosk) await openKept().then((work) => beginWith(work));
     else await beginWith(null);
@@ -856,20 +1050,26 @@ async function beginWith(work) {
     visitors.addEventListener("change", noteWork);
     drafts.addEventListener("change", noteWork);
     const last = work === null ? works.all()[0] : undefined;
+    isSettling = work !== null;
+    let isThereAgain = () => {};
+    if (work !== null) restored = new Promise((resolve) => { isThereAgain = resolve; });
     await layInTurns();
     if (last !== undefined) offer(last);
     if (!keeper.isKept) await laboratory.tell({ kind: "notKept" });
-    return goOnWith(work);
+    return goOnWith(work, isThereAgain);
 }
 
 /** What the page hears. */
 function hear() {
+    thumbs = makeThumbs();
     still.addEventListener("change", () => { player.isStill = still.matches; });
     player.isStill = still.matches;
     hearDrops(() => !isKiosk, openDropped);
+    shutBeside();
     addEventListener("keydown", onKey);
     addEventListener("popstate", followAddress);
     for (const kind of ["pagehide", "visibilitychange"]) addEventListener(kind, () => { keepWork(); keeper.leave(); });
+    document.addEventListener("visibilitychange", () => sound.hide(document.hidden));
 }
 
 globalThis.laboratoryOfPage = () => laboratory;

@@ -1,6 +1,6 @@
 // A link to a session of the module in this process, with the functions that the page's link to its Worker has.
 import { readFileSync } from "node:fs";
-import { Session, compiled } from "./module/session.mjs";
+import { Session, compiled } from "../libraries/javascript/session.mjs";
 
 /** A link to the compiled module in a file. */
 export class ModuleLink {

@@ -1,21 +1,13 @@
-// The module's bytes as a text that may stand in a page: a sign for each byte, the shortest ones for those that are there most often. So it is shorter than base 64 has it, and can still be
-// compressed on its way.
+// Texts and the module's bytes, packed for the page: compressed in the format LZMA by xz, with what unpacked.mjs expects, and written in base 64, after
+// their size. A page's way through a network compresses base 64 nearly to what it stands for.
+import { spawnSync } from "node:child_process";
 
-/** The signs: what ASCII has, without the one that may begin an element, and then letters of two bytes. None of them is changed by a page. */
-const SIGNS = [...Array.from({ length: 95 }, (unused, place) => 32 + place), ...Array.from({ length: 160 }, (unused, place) => 0xae + place), 0xa1, 0xa2].filter((code) => code !== 60).map((code) => String.fromCharCode(code));
-
-/** The text of bytes: the sign of each of the 256, and then those of the bytes. */
+/** Bytes, packed as a text. */
 export function packed(bytes) {
-    const often = new Array(256).fill(0);
-    for (const byte of bytes) often[byte] += 1;
-    const signs = [];
-    for (const [place, byte] of [...often.keys()].sort((one, other) => often[other] - often[one]).entries()) signs[byte] = SIGNS[place];
-    return signs.join("") + Array.from(bytes, (byte) => signs[byte]).join("");
+    const { status, stdout, stderr } = spawnSync("xz", ["--format=raw", "--lzma1=preset=9e,lc=3,lp=0,pb=0,nice=273", "--stdout"], { input: bytes, maxBuffer: 1 << 28 });
+    if (status !== 0) throw new Error(`xz (Debian package xz-utils) has not packed: ${stderr ?? "it is not there"}`);
+    return `${bytes.length} ${stdout.toString("base64")}`;
 }
 
-/** The bytes of such a text. */
-export function unpacked(text) {
-    const values = [];
-    for (let byte = 0; byte < 256; byte += 1) values[text.charCodeAt(byte)] = byte;
-    return Uint8Array.from({ length: text.length - 256 }, (unused, place) => values[text.charCodeAt(256 + place)]);
-}
+/** A text, packed. */
+export const packedText = (text) => packed(new TextEncoder().encode(text));

@@ -1,24 +1,12 @@
-// Words of a run at other sectors. What the same orders would then have taken are sums of the monitor's own numbers; how long each order alone would have waited is worked out here, to be
-// drawn, and is right only where its sum is that number. Nothing here knows of a page.
-import { PLACES, SECTORS, addressOf, numberOf, placesTo, sectorOf } from "./addresses.mjs";
+// Words of a run at other sectors. What the same orders would then have taken are sums of the monitor's own numbers; how long each order alone would have waited is worked out to be drawn,
+// and is right only where its sum is that number. Nothing here knows of a page.
+import { PLACES, SECTORS, addressOf, numberOf, sectorOf } from "./addresses.mjs";
 import { columnOf, tokensOf } from "./language.mjs";
 import { linesIn } from "./lines.mjs";
+import { elsewhere, isOfLoader } from "./machine.mjs";
 
 /** The sum of the word times of accounts. */
 export const timesOf = (accounts) => accounts.reduce((sum, account) => sum + account.sum, 0);
-
-/** The same orders with words at other sectors, one after another: each waits until it comes itself, and then its word; all else takes what it took. */
-export function elsewhere(accounts, sectorOfWord) {
-    let clock = accounts[0]?.clock;
-    return accounts.map((account) => {
-        const { at, inRegister, word, take, act } = account;
-        const find = inRegister || at === null ? account.find : placesTo(sectorOf(at), clock);
-        const seek = word === null ? account.seek : placesTo(sectorOfWord(word), clock + BigInt(find + take));
-        const moved = { ...account, clock, find, seek, sum: find + take + seek + act };
-        clock += BigInt(moved.sum);
-        return moved;
-    });
-}
 
 /** Words of a run, and at which sectors they are. */
 export class Placing {
@@ -91,12 +79,9 @@ export class Placing {
     }
 }
 
-/** The places of the loader. */
-const LOADER = { first: numberOf("6300"), last: numberOf("6321") };
-
 /** The first address of a sector that is none of these, and none of the loader's. */
 export function freePlace(sector, taken) {
-    const isFree = (number) => !taken.has(addressOf(number)) && (number < LOADER.first || number > LOADER.last);
+    const isFree = (number) => !taken.has(addressOf(number)) && !isOfLoader(number);
     for (let number = sector; number < PLACES; number += SECTORS) if (isFree(number)) return addressOf(number);
     return null;
 }

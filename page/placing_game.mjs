@@ -1,5 +1,5 @@
 // The game that makes a program faster: its programs, and what is played. Nothing here knows of a page.
-import { sectorOf } from "./addresses.mjs";
+import { SECTORS, sectorOf } from "./addresses.mjs";
 import { Placing } from "./placing.mjs";
 
 /** The programs: the example of each, where its loop begins, and the words that are moved; their names, where the example has none for them. */
@@ -53,6 +53,19 @@ export class PlacingGame {
         for (const address of this.placing.moved) drawn.set(sectorOf(address), BLANK);
         for (const address of this.program.words) drawn.set(this.placing.sectorOf(address), this.#track.get(sectorOf(address)));
         return drawn;
+    }
+
+    /** How a word misses an order that uses it, of the order that waits longest for it: by how many places it has gone by before the order is taken, or comes after the next order has; null where that is not known. */
+    missOf(address) {
+        const { round } = this;
+        const misses = round.flatMap(({ account }, place) => {
+            const next = round[(place + 1) % round.length].account;
+            if (account.word !== address) return [];
+            const isEarly = account.seek >= next.find;
+            return [{ isEarly, at: account.at, order: account.order, waits: Math.max(account.seek, next.find) }];
+        });
+        const [worst] = misses.sort((one, other) => other.waits - one.waits);
+        return worst === undefined ? null : { isEarly: worst.isEarly, at: worst.at, letter: worst.order[0], places: Math.max(1, SECTORS + 1 - worst.waits) };
     }
 
     nameOf(address) {

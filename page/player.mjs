@@ -1,5 +1,5 @@
 // Plays an order from its account: the monitor has done it at once, and here its word times pass one after another. Nothing here knows of a page.
-import { PLACES, addressOf, numberOf } from "./addresses.mjs";
+import { PLACES, addressOf, bareOrder, numberOf } from "./addresses.mjs";
 
 /** The phases of an order, one after another. */
 export const PHASES = ["find", "take", "seek", "act"];
@@ -107,4 +107,17 @@ export class Player {
             accumulator: done ? account.after : account.before, codes: this.#codesToCome(), isHurried: this.#speedOfAct() > this.pace,
         };
     }
+}
+
+/** Which order is under way, and all that follows from that for what shows it, so that list, pins, register, hub and caption speak of the same one: the place of the order and how it is written, its phase, the
+ * place that comes after it, and the place of its word. Before an order is taken nobody knows what it names, and what comes after it is itself; between two orders the last one is there as `done`; before the
+ * first there is none. `played` is what a player tells, or null, and `last` the order that was told last, or null where another one may have been performed since. */
+export function markAt({ played, last, panel }) {
+    if (played !== null && !played.done) {
+        const { account, phase, counter } = played;
+        const isTaken = phase === "seek" || phase === "act";
+        return { now: account.at, order: bareOrder(account.order), phase, coming: isTaken ? counter : null, operand: isTaken ? account.word : null, isWritten: false };
+    }
+    if (last === null) return { now: null, order: null, phase: null, coming: panel.counter, operand: null, isWritten: false };
+    return { now: last.at, order: bareOrder(last.order), phase: "done", coming: panel.counter, operand: last.word, isWritten: last.stored !== null };
 }

@@ -1,13 +1,14 @@
 // Runs are done in portions, so that Stop is heard, and so that no more is printed than memory holds and a reader wants.
 import { LIMITS } from "./memory_budget.mjs";
 
-/** The orders of a first portion, the runs of a first one by `operate`, the most orders, and how long a portion should take. */
-const PORTION = { first: 2000, starts: 100, most: 50_000_000, milliseconds: 50 };
+/** The orders of a first portion and of the least one, the runs of these by `operate`, the most orders, and how long a portion should take. */
+const PORTION = { first: { run: 20_000, operate: 100 }, least: { run: 20_000, operate: 100 }, most: 50_000_000, milliseconds: 50 };
 
-/** The size of the next portion, so that it takes its time, neither growing nor shrinking by more than four times. */
-export function nextPortion(size, took) {
+/** The size of the next portion, so that it takes its time, neither growing nor shrinking by more than four times. It never has fewer orders than `least` says: beside other work they take long, but fewer would bring the
+ * machine to a stand. */
+export function nextPortion(size, took, verb = "run") {
     const factor = Math.min(4, Math.max(0.25, PORTION.milliseconds / Math.max(took, 1)));
-    return Math.min(PORTION.most, Math.max(100, Math.round(size * factor)));
+    return Math.min(PORTION.most, Math.max(PORTION.least[verb], Math.round(size * factor)));
 }
 
 /** How many orders may be performed at once where a run is to ask after its codes: as many as print no more than are left, if they print as those before did. */
@@ -31,7 +32,7 @@ export class Run {
     #limit;
     #isOperated;
     #isAtRest = false;
-    #sizes = { run: PORTION.first, operate: PORTION.starts };
+    #sizes = { ...PORTION.first };
     #portion = null;
     #performed = 0;
     #untilAsked = LIMITS.asksAfter;
@@ -63,7 +64,7 @@ export class Run {
 
     /** The portion has taken this many milliseconds. */
     took(milliseconds) {
-        this.#sizes[this.#portion.verb] = nextPortion(this.#sizes[this.#portion.verb], milliseconds);
+        this.#sizes[this.#portion.verb] = nextPortion(this.#sizes[this.#portion.verb], milliseconds, this.#portion.verb);
     }
 
     refused(reply) {

@@ -1,6 +1,9 @@
 // Queries about the machine. Each is made of questions that leave no trace in the transcript, so that what is saved are the reader's lines alone.
-import { SECTORS, addressOf, sectorAt } from "./addresses.mjs";
-import * as replies from "./module/replies.mjs";
+import { SECTORS, addressOf } from "./addresses.mjs";
+import { kindsIn } from "./kinds.mjs";
+import { linesIn } from "./lines.mjs";
+import { sectorAt } from "./machine.mjs";
+import * as replies from "../libraries/javascript/replies.mjs";
 
 /** How many words are shown around the counter. */
 export const SHOWN = 16;
@@ -43,8 +46,19 @@ export class Queries {
         return replies.labelsOf(await this.#link.ask("json labels-data"));
     }
 
+    /** What the words of the source are that was closed last, by their places. */
+    async kinds(source) {
+        return kindsIn(linesIn(source), await this.#link.ask("json source-data"));
+    }
+
     async paper() {
         return replies.paperOf(await this.#link.ask("paper"));
+    }
+
+    /** The code that was printed last, of so many. */
+    async struck(count) {
+        const [record] = count === 0 ? [] : replies.recordsOf(await this.#link.ask(`json paper-data ${count - 1}`));
+        return record === undefined ? null : { code: Number(record.get("code")), sign: record.get("sign") ?? null };
     }
 
     /** The digits of all words of the drum, in the order of their addresses. */
@@ -59,13 +73,14 @@ export class Queries {
     }
 }
 
-/** What a reply of `optimum-data` tells of one word, with the sectors in the order in which they pass the head, none where no order named the word; and why its run was refused, where that was so. */
+/** What a reply of `optimum-data` tells of one word, with the sectors in the order in which they pass the head, none where the orders took as long with the word at any; and why its run was refused, where that was so. */
 export function costsIn(reply) {
     const { told, end } = replies.reportOf(reply);
     const { own, best, numbers, ...costs } = replies.costsOf(told);
-    const passing = ["none", "unnamed"].includes(costs.kind) ? [] : Array.from({ length: SECTORS }, (unused, position) => sectorAt(position));
+    const isSame = numbers.every((times) => times === numbers[0]);
+    const passing = isSame ? [] : Array.from({ length: SECTORS }, (unused, position) => sectorAt(position));
     const sectors = passing.map((sector) => ({ sector, times: numbers[sector], isOwn: sector === own, isBest: sector === best }));
-    return { ...costs, sectors, refusal: replies.isRefusal(end) ? end : null };
+    return { ...costs, own, best, sectors, refusal: replies.isRefusal(end) ? end : null };
 }
 
 const waited = (times, sign) => (times === 0 ? "" : ".".repeat(times - 1) + sign);

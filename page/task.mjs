@@ -1,12 +1,15 @@
-// A task of tasks/ and its check, for the page and for ./check_task: each try is a script of the laboratory, and what is missing is read from the
-// replies to its lines. tasks/README.md has the form of a task, and tasks/language the sentences.
+// A task of teaching/tasks and its check, for the page and for ./check_task: each try is a script of the laboratory, and what is missing is read from the
+// replies to its lines. teaching/tasks/README.md has the form of a task, and teaching/tasks/language the sentences.
 import { linesIn } from "./lines.mjs";
-import { heldOf, isRefusal, panelOf, printedOf, refusalOf, runOf, sourceOf } from "./module/replies.mjs";
+import { heldOf, isRefusal, panelOf, printedOf, refusalOf, runOf, sourceOf, wholeOf } from "../libraries/javascript/replies.mjs";
 
 /** What is shown of a line or a text, in bytes; of how many faults of a source; and the orders of a run where the task has no limit. */
 const [SHOWN, FAULTS, LIMIT] = [100, 10, 10_000];
 
-/** The sentences of a file of tasks/language, by their names. */
+/** The number of the least word that is an order other than z. */
+const FIRST_ORDER = 32_768;
+
+/** The sentences of a file of teaching/tasks/language, by their names. */
 export const sentencesIn = (text) => Object.fromEntries(linesIn(text).filter((line) => !/^(#|$)/.test(line)).map((line) => [line.split(" ")[0], line.slice(line.indexOf(" ") + 1)]));
 
 /** What writes a sentence of a table by its name and the words that are put into it. */
@@ -49,6 +52,14 @@ const beginning = (lines) => ["press manual", ...restsOf(lines, "begin"), "press
 /** The script that sets a new machine up as the first try begins, with a source or, where that is null, without one. */
 export const setUpOf = ({ tries: [first] }, source) => [...(source === null ? [] : [...sourceLines(source), "load"]), ...beginning(first)].join("\n");
 
+const COMMAND = /^ {4}(put|mount|press) /;
+
+/** A task's text as the page has it: where a paragraph asks for lines of the monitor to be typed, which the page does by itself, it has its first sentence alone, and then `done`, which says that. */
+export function textAtPage(text, done) {
+    const blocks = text.trim().split(/\n\n+/);
+    return blocks.map((block, place) => (COMMAND.test(blocks[place + 1] ?? "") ? `${/^[^]*?[.!?](?= |$)/.exec(block)?.[0] ?? block} ${done}` : block)).join("\n\n");
+}
+
 /** A text without what is no sign of ASCII: a question mark for each byte of that. */
 const plain = (text) => text.replace(/[^ -~]/gu, (sign) => "?".repeat(new TextEncoder().encode(sign).length));
 
@@ -60,6 +71,15 @@ function shown(text, say) {
 
 const atMost = (name, is, most) => (is <= Number(most) ? null : [name, is, most]);
 
+/** A word that a task calls by its number: that first, and then its digits. */
+const asNumber = (digits) => `${wholeOf(digits)} (${digits})`;
+
+/** A line that begins a try, as pupils type it: a word that is too small for an order is a number. */
+const asTyped = (line) => line.replace(/^(put \d{4}) ([0-9fgjkqw]{8})$/, (whole, put, digits) => {
+    const number = wholeOf(digits);
+    return Math.abs(number) < FIRST_ORDER ? `${put} = ${number}` : whole;
+});
+
 /** What is missing of a try's end, by each line of a task that wants something: the name of a sentence and its words, or null. */
 const LOOKS = {
     "want status": () => null,
@@ -68,7 +88,10 @@ const LOOKS = {
     "want word": ({ asked }, rest) => {
         const [address, digits, name] = /^(\S+) (\S+) ?(.*)$/.exec(rest).slice(1);
         const is = asked.get(address).digits;
-        return is === digits ? null : ["word", address, is, name === "" ? digits : `${digits} (${name})`];
+        if (is === digits) return null;
+        const isNumber = name === String(wholeOf(digits));
+        const wanted = name === "" ? digits : `${digits} (${name})`;
+        return isNumber ? ["word", address, asNumber(is), asNumber(digits)] : ["word", address, is, wanted];
     },
     "want shows": ({ asked }, rest) => {
         const [address, order] = [rest.slice(0, 4), rest.slice(5)];
@@ -128,7 +151,7 @@ async function tried(link, lines, about) {
 function ofTry(missing, place, { tries }, say) {
     if (missing.length === 0 || tries.length === 1) return missing;
     const begun = restsOf(tries[place], "begin");
-    const all = place > 0 && begun.length > 0 ? [...missing, say("try-began", begun.join("; "))] : missing;
+    const all = place > 0 && begun.length > 0 ? [...missing, say("try-began", begun.map(asTyped).join("; "))] : missing;
     return all.map((sentence) => say("in-try", place + 1, sentence));
 }
 

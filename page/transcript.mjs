@@ -1,5 +1,5 @@
 // The script that leads to where a machine is: the monitor's transcript, without what the page has asked for itself.
-import { linesOf } from "./module/replies.mjs";
+import { linesOf } from "../libraries/javascript/replies.mjs";
 
 export class Transcript {
     #link;

@@ -1,13 +1,10 @@
 // The words of the drum that the monitor told last. What has put a word there is asked once: as long as the monitor tells each order, an account says which word its order has stored.
-import { SECTORS } from "./addresses.mjs";
-import * as replies from "./module/replies.mjs";
+import { SECTORS, bareOrder } from "./addresses.mjs";
+import * as replies from "../libraries/javascript/replies.mjs";
 
 const nameOfTrack = (address) => address.slice(0, 2);
 
-/** An order without the label of its address. */
-const bare = (order) => (order === null ? null : order.split(" ").slice(0, 2).join(" "));
-
-const originBy = ({ order, at, clock, stored: { before } }) => ({ order: bare(order), at, clock, lost: bare(before.order) ?? `${before.digits} = ${before.number}` });
+const originBy = ({ order, at, clock, stored: { before } }) => ({ order: bareOrder(order), at, clock, lost: bareOrder(before.order) ?? `${before.digits} = ${before.number}` });
 
 /** The words of a reply, by their addresses. */
 const wordsIn = (reply) => new Map(replies.heldOf(reply).map((word) => [word.address, word]));
@@ -63,6 +60,11 @@ export class WordCache {
         const asked = addresses.filter((address) => this.#words.get(address).isChanged && !this.#origins.has(address));
         const origins = replies.originsOf(await this.#ask(asked.map((address) => `json why-data ${address}`)));
         for (const address of asked) this.#origins.set(address, origins.get(address) ?? null);
+    }
+
+    /** The words of addresses of tracks that were asked, by their addresses, each with its digits and the order that it is, or null. */
+    heldAt(addresses) {
+        return new Map(addresses.map((address) => [address, this.#words.get(address)]));
     }
 
     /** The words of addresses, each with the order that it is, or `word` and its digits, and with the order or the hand that is known to have put it there, or null. */

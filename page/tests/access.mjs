@@ -137,9 +137,10 @@ export async function unreached(browser) {
         await goAround(browser);
         missed = await browser.value(`(() => {
             const wanted = [...document.querySelectorAll("a[href], button, input, select, [role=textbox], summary, [tabindex='0']"), ...heardByMouse];
-            // of an editor its text is reached, and with that all that a mouse finds there; of radio buttons the chosen one, from which arrows go on
-            const standsFor = (it) => it.closest(".CodeMirror")?.querySelector("[role=textbox]") ?? (it.type === "radio" ? document.querySelector("[name='" + it.name + "']:checked") : it);
-            const isMissed = (it) => it.isConnected && it.checkVisibility() && !it.disabled && !reachedByTab.has(standsFor(it));
+            // of an editor its text is reached, and with that all that a mouse finds there; of radio buttons, and of a list of addresses, the chosen one, from which arrows go on
+            const standsFor = (it) => it.closest(".CodeMirror")?.querySelector("[role=textbox]") ?? it.closest("[data-stops='one']")?.querySelector("[tabindex='0']") ?? (it.type === "radio" ? document.querySelector("[name='" + it.name + "']:checked") : it);
+            // a thumb is for the mouse alone: what is scrolled is scrolled by keys without it
+            const isMissed = (it) => it.isConnected && it.checkVisibility() && !it.disabled && it.closest(".thumbs") === null && !reachedByTab.has(standsFor(it));
             return [...new Set(wanted.filter(isMissed).map((it) => "Tab does not reach " + it.outerHTML.slice(0, 100)))];
         })()`);
     }

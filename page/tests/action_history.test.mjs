@@ -1,9 +1,10 @@
 import assert from "node:assert/strict";
 import { test } from "node:test";
 import { ActionHistory } from "../action_history.mjs";
-import { addressIn, addressOf, isAmong, numberOf, positionOf, windowAt } from "../addresses.mjs";
+import { addressIn, addressOf, isAmong, numberOf, windowAt } from "../addresses.mjs";
 import { headOf, linesIn, setUp } from "../lines.mjs";
-import { addressOf as placeOf, askedIn, inLanguage } from "../opening.mjs";
+import { positionOf } from "../machine.mjs";
+import { addressOf as placeOf, askedIn, inLanguage, projected } from "../opening.mjs";
 import { nextPortion, ordersUntilAsked } from "../portions.mjs";
 
 test("orders gone back over are ahead, with the presses between them", () => {
@@ -69,7 +70,9 @@ test("sectors lie as docs/MACHINE.md draws them", () => {
 });
 
 test("portions come near to their time", () => {
-    assert.deepEqual([nextPortion(1000, 50), nextPortion(1000, 100), nextPortion(1000, 1), nextPortion(1000, 5000)], [1000, 500, 4000, 250]);
+    assert.deepEqual([nextPortion(100_000, 50), nextPortion(100_000, 100), nextPortion(100_000, 1), nextPortion(100_000, 5000)], [100_000, 50_000, 400_000, 25_000]);
+    // beside other work a portion takes long, and has 20,000 orders all the same; runs that each wait for a typewriter are fewer
+    assert.deepEqual([nextPortion(20_000, 60_000), nextPortion(100, 60_000, "operate"), nextPortion(1000, 50, "operate")], [20_000, 100, 1000]);
 });
 
 test("the head of a script, and how far it sets up", () => {
@@ -82,12 +85,19 @@ test("the head of a script, and how far it sets up", () => {
 
 test("what an address asks for", () => {
     assert.deepEqual(askedIn({ search: "?kiosk=games/matches&idle=60&lang=de", hash: "" }),
-        { isKiosk: true, script: null, example: "games/matches", language: "de", door: "hall", idleSeconds: 60, offers: null, lesson: null, step: null, task: null, story: null, caption: null, game: null, seconds: null });
+        { isKiosk: true, script: null, work: null, exhibit: null, example: "games/matches", language: "de", door: "hall", idleSeconds: 60, offers: null, isProjected: false, lesson: null, step: null, task: null, story: null, caption: null, game: null, seconds: null });
     assert.equal(askedIn({ search: "", hash: "#script=put%200000%2000000000%0Apanel" }).script, "put 0000 00000000\npanel");
     assert.deepEqual([askedIn({ search: "", hash: "#kiosk" }).isKiosk, askedIn({ search: "", hash: "#first-run" }).example], [true, "first-run"]);
     assert.equal(askedIn({ search: "", hash: "#%E0%A4%A" }).example, "%E0%A4%A");
     const doors = [["", ""], ["?door=look", ""], ["?door=learn&lang=de", "#first-run"], ["?door=cellar", ""], ["", "#first-run"], ["", "#script=panel"]];
     assert.deepEqual(doors.map(([search, hash]) => askedIn({ search, hash }).door), ["hall", "look", "learn", "hall", "work", "work"]);
+});
+
+test("an address asks for the projector's view, and for no more than that", () => {
+    for (const [search, shown] of [["?lang=de&lesson=rewriting&step=9", "?lang=de&lesson=rewriting&step=9&projector"], ["", "?projector"]]) {
+        assert.deepEqual([projected(true, { search, hash: "#x" }), projected(false, { search: shown, hash: "" }), askedIn({ search: shown, hash: "" }).isProjected], [`${shown}#x`, search === "" ? "?" : search, true]);
+    }
+    assert.equal(askedIn({ search: placeOf({ lesson: "rewriting", step: 2 }, { search: "?lesson=rewriting&step=1&projector" }), hash: "" }).isProjected, true);
 });
 
 test("an address says where one is, and asks for the same", () => {

@@ -6,7 +6,7 @@ import { join } from "node:path";
 import { Driver } from "./driver.mjs";
 
 /** The codes of keys, as Windows numbers them, that are no letter, digit or blank. */
-const CODES = { Tab: 9, Enter: 13, Escape: 27, End: 35, Home: 36, ArrowLeft: 37, ArrowUp: 38, ArrowRight: 39, ArrowDown: 40, F1: 112, F5: 116, F8: 119, F9: 120, F10: 121, ";": 186, "=": 187, "+": 187, ",": 188, "-": 189, ".": 190, "/": 191, "'": 222 };
+const CODES = { Tab: 9, Enter: 13, Escape: 27, PageUp: 33, PageDown: 34, End: 35, Home: 36, ArrowLeft: 37, ArrowUp: 38, ArrowRight: 39, ArrowDown: 40, F1: 112, F4: 115, F5: 116, F8: 119, F9: 120, F10: 121, ";": 186, "=": 187, "+": 187, ",": 188, "-": 189, ".": 190, "/": 191, "'": 222 };
 
 /** A page of a Chromium without a window. */
 export class Chromium extends Driver {

@@ -6,15 +6,17 @@ import { dirname, join } from "node:path";
 import { test } from "node:test";
 import { fileURLToPath } from "node:url";
 import { Controller } from "../controller.mjs";
+import { linesIn } from "../lines.mjs";
 import { LIMITS } from "../memory_budget.mjs";
-import { recordsOf } from "../module/replies.mjs";
-import { NoMemory } from "../module/session.mjs";
+import { recordsOf } from "../../libraries/javascript/replies.mjs";
+import { NoMemory } from "../../libraries/javascript/session.mjs";
 import { ModuleLink } from "../module_link.mjs";
 import { NativeLink } from "./native.mjs";
+import { withoutReasons } from "./replies.mjs";
 
 const top = join(dirname(fileURLToPath(import.meta.url)), "../..");
 const program = process.env.MONITOR ?? join(top, "crates/lgp30m/out/lgp30m");
-const module = join(top, "page/module/lgp_c_region.wasm");
+const module = join(top, "libraries/javascript/lgp_c_region.wasm");
 const exampleNamed = (name) => readFileSync(join(top, `examples/${name}.txt`), "utf8");
 const names = readdirSync(join(top, "examples"), { recursive: true }).map(String).filter((name) => name.endsWith(".txt")).map((name) => name.slice(0, -".txt".length));
 const LINKS = [
@@ -145,6 +147,13 @@ live("nothing is lost where someone went somewhere in between", async (laborator
     for (let ahead = 6; ahead >= 0; ahead -= 1) {
         await laboratory.forward(1);
         assert.equal(laboratory.history.ahead, ahead);
+    }
+});
+
+live("each example gives its stored replies, where all its lines are asked at once", async (laboratory, link) => {
+    for (const name of names) {
+        await link.anew();
+        assert.equal(withoutReasons(await link.askAll(linesIn(exampleNamed(name)))), readFileSync(join(top, `examples/${name}.expected`), "utf8"), name);
     }
 });
 
@@ -538,10 +547,10 @@ live("what a word would have cost is asked of the last orders, and the machine a
 live("of a long run the orders are asked for that are kept, and of none that is said", async (laboratory) => {
     await laboratory.say("put 0000 b 0000", "put 0001 a 0003", "put 0002 u 0000", "press start");
     await laboratory.askCosts("0003");
-    assert.deepEqual([laboratory.costs.kind, laboratory.costs.address, laboratory.costs.reason], ["none", null, "no order named it, so its sector makes no difference"]);
+    assert.deepEqual([laboratory.costs.kind, laboratory.costs.address, laboratory.costs.reason], ["none", null, "no order waited for it or stood there, so its sector makes no difference"]);
     await laboratory.run(6000);
     const { panel } = laboratory;
-    for (const [address, kind] of [["0003", "free"], ["0005", "unnamed"], ["0002", "unnamed"], ["0000", "performed"]]) {
+    for (const [address, kind] of [["0003", "free"], ["0005", "unnamed"], ["0002", "performed"], ["0000", "performed"]]) {
         await laboratory.askCosts(address);
         assert.deepEqual([laboratory.costs.orders, laboratory.costs.address, laboratory.costs.kind], [4096, address, kind]);
     }
@@ -633,6 +642,18 @@ live("how much was loaded, and by how many orders, is known until an order is pe
     assert.equal(laboratory.loading, null);
 });
 
+live("how long the orders took that are counted is known without what the loading took before them", async (laboratory) => {
+    await laboratory.say("source", "first b two", " a two", " z", "two int 2 30", " end first", ".", "load");
+    const loaded = laboratory.panel.clock;
+    assert.ok(loaded > 10_000n);
+    await laboratory.run(9);
+    assert.deepEqual([laboratory.begunAt, laboratory.history.behind], [loaded, 3]);
+    await laboratory.back(3);
+    assert.equal(laboratory.begunAt, loaded);
+    await laboratory.say("new");
+    assert.equal(laboratory.begunAt, 0n);
+});
+
 live("the source that was loaded is known until a new laboratory is opened", async (laboratory) => {
     await laboratory.load(" z\n end 0000");
     assert.equal(laboratory.loaded, " z\n end 0000");
@@ -641,4 +662,27 @@ live("the source that was loaded is known until a new laboratory is opened", asy
     assert.equal(laboratory.loaded, " z\n end 0000");
     await laboratory.new();
     assert.equal(laboratory.loaded, null);
+});
+
+live("what is pressed while a run goes on is done between two of its portions, and the run goes on", async (laboratory, link) => {
+    await laboratory.say("put 0000 u 0000", "press start");
+    const [ask, presses, done] = [link.ask.bind(link), { 2: "press bp32 down", 4: "press manual" }, []];
+    let portions = 0;
+    link.ask = (line) => {
+        portions += line.startsWith("run ") ? 1 : 0;
+        if (line.startsWith("run ") && portions in presses) laboratory.command(presses[portions]).then(() => done.push(presses[portions], laboratory.panel.down.bp32));
+        return ask(line);
+    };
+    const { orders, end } = await laboratory.run(100_000_000);
+    assert.deepEqual([end, portions, done], ["rest", 5, ["press bp32 down", true, "press manual", true]]);
+    assert.ok(orders >= 4 * 20_000, `${orders}`);
+    assert.match(laboratory.lines.join("\n"), /run \d+\nrun \d+\npress bp32 down\nrun \d+\nrun \d+\npress manual\nrun \d+$/);
+});
+
+live("a run to the next print ends soon after it; where nothing is printed it says so", async (laboratory) => {
+    await laboratory.say("put 0000 b 0050", "put 0001 p 4600", "put 0002 u 0001", "put 0050 = 3", "press start");
+    assert.deepEqual([await laboratory.runToPrint(1000), laboratory.printed.count > 0, laboratory.performed <= 100], [true, true, true]);
+    await laboratory.new();
+    await laboratory.say("put 0000 u 0000", "press start");
+    assert.deepEqual([await laboratory.runToPrint(200), laboratory.performed], [false, 200]);
 });

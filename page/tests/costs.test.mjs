@@ -1,7 +1,7 @@
 // The sentences of the ring of costs, over replies as the monitor has them.
 import assert from "node:assert/strict";
 import { test } from "node:test";
-import { replyOf } from "../module/tests/told_as_json.mjs";
+import { replyOf } from "../../libraries/javascript/tests/told_as_json.mjs";
 import { costsIn } from "../queries.mjs";
 import { costsText } from "../views/costs.mjs";
 import { LANGUAGES, textsIn } from "../words.mjs";
@@ -19,11 +19,14 @@ test("where a word lies, what the orders took, where it would have cost least an
     assert.match(told(replyWith({ best: 28, least: 150629 }))[0], /is in sector 28\. .* no sector is better\. The word may be moved\.$/);
 });
 
-test("the sectors come in the order in which they pass the head, each with its word times, none where no order named the word", () => {
+test("the sectors come in the order in which they pass the head, each with its word times, none where all times are the same", () => {
     const { sectors } = costsIn(replyWith());
     assert.deepEqual(sectors.slice(0, 3).map(({ sector }) => sector), [0, 57, 50]);
     assert.deepEqual(sectors.filter(({ isOwn, isBest }) => isOwn || isBest), [{ sector: 25, times: 125541, isOwn: false, isBest: true }, { sector: 28, times: 150629, isOwn: true, isBest: false }]);
-    assert.deepEqual(costsIn(replyWith({ freedom: "unnamed", sentence: "no order named it, so its sector makes no difference" })).sectors, []);
+    assert.deepEqual(costsIn(replyWith({ least: 150629, freedom: "unnamed", sentence: "no order waited for it or stood there, so its sector makes no difference" })).sectors, []);
+    const alone = replyWith({ best: 28, least: 150629, freedom: "performed", sentence: "it should not be moved, because it was performed as an order" });
+    assert.deepEqual(costsIn(alone).sectors, []);
+    assert.equal(told(alone)[0], "0128 wage is an order of the program and must stay. None of the last orders, 2,355 in all, waited for it as a word.");
 });
 
 test("a reason is told as the monitor gives it, and so is why a run was refused", () => {
@@ -32,11 +35,11 @@ test("a reason is told as the monitor gives it, and so is why a run was refused"
     assert.match(sentence, /in sector 25 they would have taken 125,541, but the word is an order of the program/);
     assert.equal(said, `The monitor says: ${reason}`);
     const refusal = "? 4 ClockEnd: the clock would pass its end";
-    const unnamed = "no order named it, so its sector makes no difference";
+    const unnamed = "no order waited for it or stood there, so its sector makes no difference";
     const none = replyOf(["orders 0", "times 0", "word 0128", "sector 28", "best 28", "saved 0", "freedom unnamed", `freedom-sentence ${unnamed}`, `numbers ${Array(64).fill(0).join(" ")}`]) + `${refusal}\n`;
     assert.deepEqual([told(none).slice(1), costsIn(none).sectors], [[`The monitor says: ${unnamed}`, `The monitor says: ${refusal}`], []]);
 });
 
 test("each kind of sentence is there in each language", () => {
-    for (const { costsOf: sentences } of Object.values(LANGUAGES)) assert.deepEqual(Object.keys(sentences).sort(), ["best", "changed", "free", "none", "performed", "unnamed"]);
+    for (const { costsOf: sentences } of Object.values(LANGUAGES)) assert.deepEqual(Object.keys(sentences).sort(), ["best", "changed", "free", "none", "order", "performed", "unnamed"]);
 });

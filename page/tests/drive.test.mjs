@@ -1,8 +1,10 @@
 // The drive, over a made-up laboratory whose orders are done at once and whose pictures come at once.
 import assert from "node:assert/strict";
+import { readFileSync, readdirSync } from "node:fs";
 import { test } from "node:test";
-import { Drive, speedInShow } from "../drive.mjs";
+import { Drive, PACES, WORD_TIME, speedInShow } from "../drive.mjs";
 import { Player } from "../player.mjs";
+import { LANGUAGES } from "../words.mjs";
 
 const account = { clock: 0n, order: "b 0020", at: "0004", find: 24, take: 1, seek: 15, act: 1, sum: 41, before: "00000000", after: "00000000", stored: null, printed: null };
 
@@ -96,4 +98,17 @@ test("in a show the first orders and those that rewrite another one are slow, an
     const rewriting = { ...account, order: "y 0009", stored: { address: "0009", before: word("000q0000"), after: word("000q0100") } };
     assert.deepEqual([[account, 3], [account, 4], [rewriting, 40], [{ ...account, printed: { code: 46 } }, 40]].map(([it, behind]) => speedInShow(it, behind)),
         [{ speed: 32, hurry: 1 }, { speed: 96, hurry: 1 }, { speed: 32, hurry: 1 }, { speed: 48, hurry: 128 / 48 }]);
+});
+
+test("the length of a word time is one figure: that of the machine's own pace, and what each language says of it", () => {
+    assert.equal(PACES.own.speed, 1000 / WORD_TIME);
+    for (const [code, { pace: { own } }] of Object.entries(LANGUAGES)) {
+        assert.ok(own[2].includes(WORD_TIME.toLocaleString(code)), own[2]);
+        assert.ok(own[1].startsWith(String(Math.round(1000 / WORD_TIME / 64))), own[1]);
+    }
+    // what documents say of it, with a point or a comma; .ci/programs reads the figure itself
+    const read = (path) => readFileSync(new URL(`../../${path}`, import.meta.url), "utf8");
+    for (const [path, said] of [["docs/EXHIBITS.md", `${WORD_TIME} milliseconds`], ["docs/de/EXHIBITS.md", `${WORD_TIME.toLocaleString("de")} Millisekunden`], ["docs/PROGRAMS.md", `a word time lasts ${String(WORD_TIME).slice(1)} milliseconds`]]) assert.ok(read(path).includes(said), `${path}: ${said}`);
+    const others = readdirSync(new URL("../../docs", import.meta.url), { recursive: true }).filter((path) => path.endsWith(".md")).map((path) => `docs/${path}`);
+    for (const path of others) assert.doesNotMatch(read(path), /(?:turns a minute|Umdrehungen (?:in der|je) Minute)/, path);
 });

@@ -1,7 +1,7 @@
 // What the drivers of all engines share: the calls by which visits look at the page, over the few that each engine has its own way for.
 import { rmSync, writeFileSync } from "node:fs";
 
-const KEYS = { Tab: "\ue004", Enter: "\ue007", Escape: "\ue00c", Shift: "\ue008", Control: "\ue009", PageUp: "\ue00e", PageDown: "\ue00f", End: "\ue010", Home: "\ue011", ArrowLeft: "\ue012", ArrowUp: "\ue013", ArrowRight: "\ue014", ArrowDown: "\ue015", F1: "\ue031", F5: "\ue035", F8: "\ue038", F9: "\ue039", F10: "\ue03a" };
+const KEYS = { Tab: "\ue004", Enter: "\ue007", Escape: "\ue00c", Shift: "\ue008", Control: "\ue009", PageUp: "\ue00e", PageDown: "\ue00f", End: "\ue010", Home: "\ue011", ArrowLeft: "\ue012", ArrowUp: "\ue013", ArrowRight: "\ue014", ArrowDown: "\ue015", F1: "\ue031", F4: "\ue034", F5: "\ue035", F8: "\ue038", F9: "\ue039", F10: "\ue03a" };
 
 /** How long is waited for something at most; beside other work a browser may be slow. */
 const LONGEST_WAIT = Number(process.env.LONGEST_WAIT ?? 30_000);

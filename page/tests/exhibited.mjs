@@ -10,7 +10,7 @@ import { Player } from "../player.mjs";
 import { KIOSK_GAMES } from "../views/kiosk_game.mjs";
 
 const top = join(dirname(fileURLToPath(import.meta.url)), "../..");
-const module = join(top, "page/module/lgp_c_region.wasm");
+const module = join(top, "libraries/javascript/lgp_c_region.wasm");
 /** Whether there is no module. */
 export const skip = !existsSync(module);
 /** The names of the examples. */

@@ -14,7 +14,7 @@ const { distanceOf } = await import("../views/hand.mjs");
 const { apart } = await import("../views/pins.mjs");
 
 const top = join(dirname(fileURLToPath(import.meta.url)), "../..");
-const module = join(top, "page/module/lgp_c_region.wasm");
+const module = join(top, "libraries/javascript/lgp_c_region.wasm");
 const skip = !existsSync(module);
 
 /** The box of a pin at an angle. */
@@ -24,6 +24,19 @@ function boxOf(pin, angle) {
 }
 const meet = (one, other) => one.left < other.right && other.left < one.right && one.top < other.bottom && other.top < one.bottom;
 const HEAD = { left: -54, right: 54, top: -372, bottom: -324 };
+
+test("three pins lie apart wherever their words are carried: one that was set beside the head is set apart from its neighbour again", () => {
+    const wrong = [];
+    for (const width of [82, 100]) for (let first = 0; first < 64; first += 1) for (let second = 0; second < 64; second += 1) {
+        const pins = [0.5, first + 0.5, second + 0.5].map((place, name) => ({ name, angle: place * 5.625 - 180, width, height: 38 }));
+        const angles = apart(pins, distanceOf);
+        const boxes = pins.map((pin) => boxOf(pin, angles.get(pin.name)));
+        if (boxes.some((box, place) => meet(box, HEAD) || boxes.slice(place + 1).some((other) => meet(box, other)))) wrong.push(`${width}: ${first}, ${second}`);
+    }
+    assert.deepEqual(wrong, []);
+    const near = apart([{ name: "sum", angle: 2.8125, width: 82, height: 38 }, { name: "last", angle: 19.69, width: 82, height: 38 }], distanceOf);
+    assert.ok(near.get("last") - near.get("sum") > 10, [...near].join(" "));
+});
 
 test("wherever words lie, no pin lies upon another one or upon the head", () => {
     const size = { width: 110, height: 46 };
@@ -83,4 +96,13 @@ test("what was played is kept, and what is kept of another program is left", { s
     assert.deepEqual([other.picked, other.placing.times, other.placing.moved], ["0021", 2654, ["0022"]]);
     other.reset();
     assert.deepEqual([other.kept, other.digits.get(22)], [{ picked: "0021", at: [] }, "00000004"]);
+});
+
+test("how a word misses the order that waits longest for it: it has gone by before that was taken, or comes after the next order has", () => {
+    const order = (at, name, word, seek, find) => ({ account: { at, order: name, word, seek, find } });
+    const missIn = (...round) => PlacingGame.prototype.missOf.call({ round }, "0024");
+    assert.deepEqual(missIn(order("0008", "b 0024", "0024", 64, 9), order("0009", "u 0008", null, 1, 9)), { isEarly: true, at: "0008", letter: "b", places: 1 });
+    assert.deepEqual(missIn(order("0008", "b 0024", "0024", 12, 9), order("0009", "u 0008", null, 1, 60)), { isEarly: false, at: "0008", letter: "b", places: 5 });
+    assert.deepEqual(missIn(order("0008", "b 0024", "0024", 40, 9), order("0009", "s 0024", "0024", 61, 5)), { isEarly: true, at: "0009", letter: "s", places: 4 });
+    assert.equal(missIn(order("0008", "u 0009", null, 1, 9)), null);
 });

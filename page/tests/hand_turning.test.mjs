@@ -12,7 +12,7 @@ import { ModuleLink } from "../module_link.mjs";
 import { Player } from "../player.mjs";
 
 const top = join(dirname(fileURLToPath(import.meta.url)), "../..");
-const module = join(top, "page/module/lgp_c_region.wasm");
+const module = join(top, "libraries/javascript/lgp_c_region.wasm");
 const skip = !existsSync(module);
 const exampleOf = (name) => readFileSync(join(top, `examples/${name}.txt`), "utf8");
 

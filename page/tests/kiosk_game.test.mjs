@@ -11,7 +11,7 @@ import { KIOSK_GAMES, asksOf, numberIn, saidOn, standsIn } from "../views/kiosk_
 import { textsIn } from "../words.mjs";
 
 const top = join(dirname(fileURLToPath(import.meta.url)), "../..");
-const module = join(top, "page/module/lgp_c_region.wasm");
+const module = join(top, "libraries/javascript/lgp_c_region.wasm");
 const skip = !existsSync(module);
 const scriptOf = (name) => readFileSync(join(top, `examples/${name}.txt`), "utf8");
 

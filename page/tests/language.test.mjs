@@ -1,6 +1,6 @@
 import assert from "node:assert/strict";
 import { test } from "node:test";
-import { Checked, Checker, askedAt, columnOf, labelsIn, likest, operationsWith, sentenceOf, tokensOf } from "../language.mjs";
+import { Checked, Checker, askedAt, columnOf, hasEndLine, isTold, labelsIn, likest, namedIn, operationsWith, sentenceOf, tokensOf } from "../language.mjs";
 import { LANGUAGES, textsIn } from "../words.mjs";
 import { ModuleLink } from "../module_link.mjs";
 
@@ -31,7 +31,7 @@ test("a name that is like another one is found", () => {
     assert.deepEqual([likest("x", []), likest("loop", ["one", "two"])], [null, null]);
 });
 
-const MODULE = new URL("../module/lgp_c_region.wasm", import.meta.url);
+const MODULE = new URL("../../libraries/javascript/lgp_c_region.wasm", import.meta.url);
 
 const checkerOf = (made) => new Checker(() => {
     made.push(new ModuleLink(MODULE));
@@ -84,4 +84,28 @@ test("every kind of fault that the monitor knows has its sentence", () => {
     }
     assert.deepEqual(new Checked("? 9 Faults\nline 1 NoEnd\n", '{"line":1,"fault":"NoEnd"}\n').faults, [{ line: 1, kind: "NoEnd", from: 0, to: 0 }]);
     assert.equal(new Checked("? 11 TooLong: no\n", "").refusal.kind, "TooLong");
+});
+
+test("a fault says what was meant where the line tells that: a comment without its blank, and a label that is set in", async () => {
+    const lines = ["start   z", "        loop  h start", "        end start; note"];
+    const said = await checkerOf([]).ask(lines.join("\n"));
+    const sentences = (code) => said.faults.map((fault) => sentenceOf(fault, lines[fault.line - 1], ["start"], textsIn(code)).sentence);
+    assert.deepEqual(sentences("en"), ["there is no such operation; a label begins in the first column", "one operand too many; a comment has a blank before its ;"]);
+    assert.match(sentences("de")[1], /vor dem ; einer Bemerkung steht ein Leerzeichen$/);
+    const other = await checkerOf([]).ask("start   q 0050\n        end start 5");
+    assert.deepEqual(other.faults.map((fault) => sentenceOf(fault, ["start   q 0050", "        end start 5"][fault.line - 1], ["start"], textsIn("en")).sentence.split("; ")[1]), ["use one of the sixteen letters, or -t org word frac int end", "a comment begins with ;"]);
+});
+
+test("nobody is blamed for the line in work, nor for what may still come, until a run is wanted", () => {
+    const told = (fault, now) => isTold(fault, { inWork: null, hasEnd: true, isAsked: false, ...now });
+    const [name, form] = [{ line: 2, kind: "UnknownName" }, { line: 2, kind: "BadOperand" }];
+    assert.deepEqual([told(name, {}), told(name, { inWork: 2 }), told(name, { hasEnd: false }), told(name, { hasEnd: false, isAsked: true }), told(name, { inWork: 2, isAsked: true })], [true, false, false, true, true]);
+    assert.deepEqual([told(form, { hasEnd: false }), told(form, { inWork: 2 }), told({ line: 3, kind: "NoEnd" }, { hasEnd: false })], [true, false, false]);
+    assert.deepEqual([hasEndLine(["start z", " end start"]), hasEndLine(["start z ; end", "end z"])], [true, false]);
+});
+
+test("a word is completed by labels that are still to come as well, but not by the one that is being written", () => {
+    const lines = ["start   b zero", "        u loop", "loop    a ta", "        word 12345678", "        int five", "        h 0050"];
+    assert.deepEqual(namedIn(lines, 2).map(({ name }) => name), ["zero"]);
+    assert.deepEqual(namedIn(lines, 0).map(({ name }) => name), ["ta"]);
 });

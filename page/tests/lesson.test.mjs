@@ -9,15 +9,15 @@ import { SOLUTIONS } from "../lesson_solutions.mjs";
 import { solveLesson } from "../lesson_solver.mjs";
 import { LESSONS } from "../lesson_steps.mjs";
 import { lessonIn } from "../lessons.mjs";
-import { signedOf } from "../module/replies.mjs";
+import { signedOf } from "../../libraries/javascript/replies.mjs";
 import { ModuleLink } from "../module_link.mjs";
 import { plain } from "../views/lesson.mjs";
 import { TALES } from "../views/tales.mjs";
-import { LANGUAGES } from "../words.mjs";
+import { LANGUAGES, inSigns } from "../words.mjs";
 
 const top = join(dirname(fileURLToPath(import.meta.url)), "../..");
-const documents = join(top, "docs/lessons");
-const module = join(top, "page/module/lgp_c_region.wasm");
+const documents = join(top, "teaching/lessons");
+const module = join(top, "libraries/javascript/lgp_c_region.wasm");
 const skip = !existsSync(module);
 const lessons = lessonsBelow(documents);
 const stepsOf = (name) => LESSONS.find((lesson) => lesson.name === name).steps;
@@ -66,7 +66,7 @@ test("a lesson is read from its document: steps in several lists, their parts, h
 });
 
 test("an answer may have its thousands set apart", () => {
-    assert.deepEqual([" 25,088", "25.088", "25088 ", "A  0000", "0,5"].map(plain), ["25088", "25088", "25088", "a 0000", "0,5"]);
+    assert.deepEqual([" 25,088", "25.088", "25\u202f088", "25 088", "25088 ", "A  0000", "0,5"].map(plain), ["25088", "25088", "25088", "25088", "25088", "a 0000", "0,5"]);
 });
 
 test("the solutions of the lessons are what the machine says", { skip }, async () => {
@@ -75,6 +75,7 @@ test("the solutions of the lessons are what the machine says", { skip }, async (
         "rewriting": [null, "b 0001", "b 0002", null, "00010100", null, "000q0024", "a 0010", "a 0011", "0000000j", null, "56", "0009", "a 0000", null, "a 0104", "0013", null, "448", "7"],
         "reading-a-listing": [null, null, "t 0205", "z 0005", null, "295", "256", "4", "00000000"],
         "where-a-word-costs-least": [null, "73", "38", null, "6", "25", "25088", "26", "00"],
+        "what-can-a-forecast-know": ["0020", "0090897251", "1725", null, "1480", "1635", "1620", "1640"],
     };
     assert.deepEqual(Object.keys(SOLUTIONS).sort(), LESSONS.map(({ name }) => name).sort());
     for (const [name, answers] of Object.entries(wanted)) assert.deepEqual((await solveLesson(name)).answers, answers, name);
@@ -102,7 +103,7 @@ test("each row of the race's table is what a profile of that placement tells, in
             await laboratory.new();
             await laboratory.load(source);
             await laboratory.addUp(10000);
-            const number = (value) => value.toLocaleString(code);
+            const number = (value) => inSigns(value, code);
             assert.deepEqual([number(laboratory.profile.times), number(laboratory.profile.turns), laboratory.panel.accumulator], [times, turns, "00000006"], places);
         }
     }
@@ -110,7 +111,7 @@ test("each row of the race's table is what a profile of that placement tells, in
 
 test("the languages of a lesson have the same numbers in their questions and steps, and the same lines for the machine", () => {
     const written = (code) => LESSONS.map(({ name }) => name).filter((name) => !lackingIn(documents, code).includes(name));
-    const numbersOf = (text) => (text.match(/\d[\d.,]*\d|\d/g) ?? []).map((number) => number.replace(/[.,]/g, "")).sort();
+    const numbersOf = (text) => (text.match(/\d[\d.,\u202f]*\d|\d/g) ?? []).map((number) => number.replace(/[.,\u202f]/g, "")).sort();
     for (const code of Object.keys(LANGUAGES)) {
         for (const name of written(code)) {
             const questionsIn = (language) => readFileSync(documentOf(documents, name, language), "utf8").split("\n").filter((line) => /^\*\*(Question|Frage)/.test(line)).map(numbersOf);
@@ -132,6 +133,40 @@ test("each row of a round of the listing is the account of its order, in each la
         const document = readFileSync(documentOf(documents, "reading-a-listing", code), "utf8");
         assert.deepEqual(document.split("\n").filter((line) => /^\| 020\d \| . \d{4} \| \d/.test(line)), accounts, code);
     }
+});
+
+/** The numbers of a document's rows whose first cell is a number of four digits, with this many cells; empty ones are left out. */
+const weatherIn = (document, cells) => document.split("\n").filter((line) => /^\| \d{4} \|/.test(line)).map((line) => line.split("|").slice(1, -1))
+    .filter((row) => row.length === cells).map((row) => row.filter((cell) => cell.trim() !== "").map(Number));
+
+/** Ten times Z of the first run by its steps, as the machine prints it. */
+async function firstRun() {
+    const laboratory = new Controller(new ModuleLink(module));
+    await laboratory.open();
+    await laboratory.openForShow("weather/lorenz", readFileSync(join(top, "examples/weather/lorenz.txt"), "utf8"));
+    await laboratory.say("press start", "run 290000");
+    return new Map(laboratory.printed.text.split("\n").map((line) => line.match(/-?\d{4}/g)?.map(Number)).filter((row) => row?.length === 4).map(([step, , , z]) => [step, z]));
+}
+
+test("the weather on the sheet is what the machine prints, and so are its maxima and those after it, in each language", { skip }, async () => {
+    const run = await firstRun();
+    const maxima = [...run.keys()].filter((step) => step >= 1000 && run.has(step + 5) && run.get(step) > run.get(step - 5) && run.get(step) >= run.get(step + 5));
+    const [within, later] = [maxima.filter((step) => step <= 1725), maxima.filter((step) => step > 1725)];
+    for (const code of Object.keys(LANGUAGES)) {
+        const document = readFileSync(documentOf(documents, "what-can-a-forecast-know", code), "utf8");
+        const grid = weatherIn(document, 11);
+        assert.deepEqual(grid.flatMap(([first, ...numbers]) => numbers.map((z, place) => [first + 5 * place, z])), [...run].filter(([step]) => step >= 1000 && step <= 1725), code);
+        assert.deepEqual(weatherIn(document, 3), within.slice(0, -1).map((step, place) => [step, run.get(step), run.get(within[place + 1])]), code);
+        assert.deepEqual(/^ {4}((\d{3} ?)+)$/m.exec(document)[1].split(" ").map(Number), later.map((step) => run.get(step)).slice(0, 11), code);
+    }
+});
+
+test("a row of weather was typed again where its four numbers were read, in their order, and the switch is up", () => {
+    const typedAgain = stepsOf("what-can-a-forecast-know")[3];
+    const printed = { text: "\n0995 -0061 -0052  0256\n1000 -0059 -0058  0240" };
+    const isDone = (numbers, transfer = false, reply = "live 6 dead 0\n") => typedAgain.done({ printed, panel: { down: { transfer } }, talk: [...numbers.map((number) => ({ line: `type ${number} '`, reply })), { line: "press transfer up", reply: "live\n" }] });
+    const row = ["1000", "-0059", "-0058", "0240"];
+    assert.deepEqual([isDone(row), isDone(["0995", ...row]), isDone(row, true), isDone(row, false, "live 0 dead 6\n"), isDone(row.slice(1)), isDone(["1000", "-0059", "-0058", "0241"]), isDone([])], [true, true, false, false, false, false, false]);
 });
 
 test("each lesson has a document in each language, with as many parts", () => {

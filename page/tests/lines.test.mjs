@@ -1,7 +1,7 @@
 // What a script says of itself, and a script without the lines that only ask.
 import assert from "node:assert/strict";
 import { test } from "node:test";
-import { commandIn, commentsIn, withoutQuestions } from "../lines.mjs";
+import { commandIn, commentsIn, headOf, withoutQuestions } from "../lines.mjs";
 
 const questions = new Set(["panel", "words", "show", "printed", "dump", "list"]);
 
@@ -22,6 +22,11 @@ test("a script without the lines that only ask", () => {
         ["source\npanel\n", "source\npanel\n"],
     ];
     for (const [script, short] of cases) assert.equal(withoutQuestions(script, questions), short, JSON.stringify(script));
+});
+
+test("the title of a script is its first sentence: a point within a number or the name of a file ends none", () => {
+    const cases = [["; One. Two.", "One"], ["; A machine that\n; knows 3.25. More", "A machine that knows 3.25"], ["; The words of a.txt by itself.\n; More", "The words of a.txt by itself"], ["; No end", ""], ["panel", ""]];
+    for (const [script, title] of cases) assert.equal(headOf(script).title, title, script);
 });
 
 test("a script tells what a word is for, in the comment before its put that begins with its address", () => {

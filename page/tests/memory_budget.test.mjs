@@ -5,10 +5,10 @@ import { dirname, join } from "node:path";
 import { test } from "node:test";
 import { fileURLToPath } from "node:url";
 import { LIMITS } from "../memory_budget.mjs";
-import { Session, compiled } from "../module/session.mjs";
+import { Session, compiled } from "../../libraries/javascript/session.mjs";
 import { counted } from "../words.mjs";
 
-const path = join(dirname(fileURLToPath(import.meta.url)), "../module/lgp_c_region.wasm");
+const path = join(dirname(fileURLToPath(import.meta.url)), "../../libraries/javascript/lgp_c_region.wasm");
 const skip = !existsSync(path);
 
 test("docs/PAGE.md names the bounds", () => {

@@ -7,10 +7,10 @@ import { fileURLToPath } from "node:url";
 import { Controller } from "../controller.mjs";
 import { linesIn, setUp } from "../lines.mjs";
 import { LIMITS, MemoryBudget } from "../memory_budget.mjs";
-import { startsOf } from "../module/replies.mjs";
+import { startsOf } from "../../libraries/javascript/replies.mjs";
 import { ModuleLink } from "../module_link.mjs";
 
-const module = fileURLToPath(new URL("../module/lgp_c_region.wasm", import.meta.url));
+const module = fileURLToPath(new URL("../../libraries/javascript/lgp_c_region.wasm", import.meta.url));
 
 const worker = { last: "", postMessage({ reply }) { this.last = reply; } };
 globalThis.self = worker;
@@ -87,9 +87,9 @@ test("Run halts at a z after a p, and by operate it goes on to the end", { skip:
     const { orders, starts, end } = laboratory.lastRun;
     assert.deepEqual([orders, starts, end], [1, 2, "rest"]);
     assert.deepEqual(laboratory.talk.at(-1), { line: "operate", reply: "ran 1 rest\n        started again at a z after a p: 2\n" });
-    assert.deepEqual(runsIn(link), ["run 2000", "run 2000", "operate 100"]);
+    assert.deepEqual(runsIn(link), ["run 20000", "run 20000", "operate 100"]);
     const script = linesIn(await laboratory.transcript());
-    assert.deepEqual(script.filter((line) => /^(run|press)/.test(line)), ["press start", "run 2000", "run 2000", "run 100", "press start", "run 100", "press start", "run 100"]);
+    assert.deepEqual(script.filter((line) => /^(run|press)/.test(line)), ["press start", "run 20000", "run 20000", "run 100", "press start", "run 100", "press start", "run 100"]);
 });
 
 test("by operate a machine at rest is told, and the orders of a run without a start can be gone back over", { skip: !existsSync(module) }, async () => {

@@ -7,12 +7,12 @@ import { fileURLToPath } from "node:url";
 import { SECTORS, sectorOf } from "../addresses.mjs";
 import { Controller } from "../controller.mjs";
 import { Checker } from "../language.mjs";
-import { accountsOf, panelOf, reportOf } from "../module/replies.mjs";
+import { accountsOf, panelOf, reportOf } from "../../libraries/javascript/replies.mjs";
 import { ModuleLink } from "../module_link.mjs";
 import { Placing, freePlace, movedSource, timesOf, withWordAt } from "../placing.mjs";
 
 const top = join(dirname(fileURLToPath(import.meta.url)), "../..");
-const module = join(top, "page/module/lgp_c_region.wasm");
+const module = join(top, "libraries/javascript/lgp_c_region.wasm");
 const skip = !existsSync(module);
 const scriptOf = (name) => readFileSync(join(top, `examples/${name}.txt`), "utf8");
 const checker = new Checker(() => new ModuleLink(module));

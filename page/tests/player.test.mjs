@@ -1,7 +1,7 @@
 // The player, with made-up accounts.
 import assert from "node:assert/strict";
 import { test } from "node:test";
-import { Player } from "../player.mjs";
+import { Player, markAt } from "../player.mjs";
 
 const bring = { clock: 90n, at: "0004", order: "b 0020", find: 24, take: 1, seek: 15, act: 1, sum: 41, before: "00000000", after: "00000100", register: "00010050", next: "0005" };
 const jump = { clock: 131n, at: "6363", order: "u 0004", find: 10, take: 1, seek: 1, act: 1, sum: 13, before: "00000100", after: "00000100", register: "000f0010", next: "0004" };
@@ -96,4 +96,20 @@ test("codes pass in the reader one after another, each for a time that can be se
         assert.deepEqual([played(input, until + 6 * 160 + 1, { pace }).codes, played(input, until + 6 * 160 + 1, { pace }).done], [0, true]);
     }
     assert.deepEqual([played(input, 0, { isStill: true }).codes, played(bring, 10).codes], [6, 0]);
+});
+
+test("the order under way is one: the one that is played, then the same as done, and before the first none", () => {
+    const account = { ...bring, word: "0020", stored: null };
+    const panel = { counter: "0005" };
+    const at = (times) => {
+        const { now, order, phase, coming, operand } = markAt({ played: played(account, 1000 * times, { pace: 1 }), last: account, panel });
+        return [now, order, phase, coming, operand];
+    };
+    assert.deepEqual(at(3), ["0004", "b 0020", "find", null, null]);
+    assert.deepEqual(at(24.5), ["0004", "b 0020", "take", null, null]);
+    assert.deepEqual(at(30), ["0004", "b 0020", "seek", "0005", "0020"]);
+    assert.deepEqual(at(40.5), ["0004", "b 0020", "act", "0005", "0020"]);
+    assert.deepEqual(at(42), ["0004", "b 0020", "done", "0005", "0020"]);
+    assert.deepEqual(markAt({ played: null, last: null, panel }), { now: null, order: null, phase: null, coming: "0005", operand: null, isWritten: false });
+    assert.equal(markAt({ played: null, last: { ...account, stored: { address: "0020" } }, panel }).isWritten, true);
 });

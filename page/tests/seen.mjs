@@ -1,7 +1,7 @@
 // What of a page is not seen as it should be, as it stands in its window. Each function gives the troubles found as lines of text, none where all is well.
 
 /** Lists, texts and editors, in which what is beyond their edge is scrolled to. */
-const LISTS = ".scroll, .with-arrows, .steps, .script-lines, .log, .transcript, .rows, .task-text, .task-answer, .explanation-text, .paper, .reply, .lines-of-step pre, .notice, .tells, .editor, .CodeMirror-hints, .card, .tab-panel, .tales > .line, .unseen, .told, .map-answer, .why, .rules, .costs-told";
+const LISTS = ".scroll, .with-arrows, .steps, .script-lines, .log, .transcript, .rows, .torn, .task-text, .task-answer, .explanation-text, .paper, .piece-rows, .reply, .lines-of-step pre, .notice, .tells, .editor, .CodeMirror-hints, .card, .tab-panel, .tales > .line, .unseen, .told, .map-answer, .why, .rules, .costs-told";
 
 /** Waits until the page has been drawn, and with that arranged for the size of its window. */
 export const laidOut = (browser) => browser.value("new Promise((resolve) => requestAnimationFrame(() => requestAnimationFrame(resolve)))");
@@ -53,7 +53,8 @@ function unhitInPage(lists) {
     const isScrolledAway = (it, x, y) => {
         for (let list = it.closest(lists); list !== null; list = list.parentElement.closest(lists)) {
             const { left, top, right, bottom } = list.getBoundingClientRect();
-            if (x < left || x > right || y < top || y > bottom) return true;
+            // on its very edge what lies beside the list is hit; and a broad edge below hides a row that would be cut
+            if (x < left + 1 || x > right - 1 || y < top + 1 || y > bottom - parseFloat(getComputedStyle(list).borderBottomWidth) - 1) return true;
         }
         return false;
     };
@@ -64,7 +65,7 @@ function unhitInPage(lists) {
         if (isScrolledAway(it, x, y)) continue;
         const hit = document.elementFromPoint(x, y);
         // the head of a list, and the bar by which it is scrolled, stand upon rows that have been scrolled below them
-        if (hit?.closest("thead") != null && it.closest("tbody") !== null || hit?.matches(lists) && hit.contains(it)) continue;
+        if (hit?.closest("thead") != null && it.closest("tbody") !== null || hit?.matches(lists) && hit.contains(it) || hit?.closest(".thumbs") != null) continue;
         if (hit === null || !(it.contains(hit) || labelOf(it).contains(hit) || hit.contains(it) && it.matches("[role=textbox]"))) found.push(`${it.tagName} ${it.id || it.getAttribute("aria-label") || it.textContent.trim().slice(0, 24)} is not hit but ${hit?.tagName}.${hit?.getAttribute("class")}`);
     }
     return found;
@@ -100,4 +101,4 @@ export async function unseenAtLast(browser, selectors) {
 export const numbersOf = (browser) => browser.value("Math.min(...[...document.querySelectorAll('.cell text')].filter((it) => getComputedStyle(it).visibility !== 'hidden').map((it) => parseFloat(getComputedStyle(it).fontSize) * (({ a, b }) => Math.hypot(a, b))(it.getScreenCTM())))");
 
 /** Where controls, panes and drum are. */
-export const boxes = (browser) => browser.value(`[...document.querySelectorAll("#page :is(button:not(.plain), .pane, .drum-box, .editor, .tabbed, .pace, .scope)")].filter((it) => it.checkVisibility() && it.closest("#notices") === null).map((it) => [it.id || it.dataset.name || (it.tagName === "BUTTON" ? it.textContent.slice(0, 20) : it.classList[0]), ...Object.values(it.getBoundingClientRect().toJSON()).slice(0, 4).map(Math.round)].join(" "))`);
+export const boxes = (browser) => browser.value(`[...document.querySelectorAll("#page :is(button:not(.plain, .account-bar), .pane, .drum-box, .editor, .tabbed, .pace, .scope)")].filter((it) => it.checkVisibility() && it.closest("#notices") === null).map((it) => [it.id || it.dataset.name || (it.tagName === "BUTTON" ? it.textContent.slice(0, 20) : it.classList[0]), ...Object.values(it.getBoundingClientRect().toJSON()).slice(0, 4).map(Math.round)].join(" "))`);

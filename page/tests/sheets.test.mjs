@@ -4,7 +4,7 @@ import { fileURLToPath } from "node:url";
 import { sharedSheetsBelow, sheetsBelow } from "../documents.mjs";
 import { withDrawings } from "../views/sheets.mjs";
 
-const lessons = fileURLToPath(new URL("../../docs/lessons", import.meta.url));
+const lessons = fileURLToPath(new URL("../../teaching/lessons", import.meta.url));
 
 test("a sheet with its drawings is the file, and each drawing is kept once", () => {
     const { drawings, sheets } = sharedSheetsBelow(lessons);

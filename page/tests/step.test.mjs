@@ -6,11 +6,11 @@ import { test } from "node:test";
 import { fileURLToPath } from "node:url";
 import { trackOf } from "../addresses.mjs";
 import { Controller } from "../controller.mjs";
-import { drumRowsOf, heldOf, linesOf, originsOf, paperOf, rulesOf, toldOf } from "../module/replies.mjs";
+import { drumRowsOf, heldOf, linesOf, originsOf, paperOf, rulesOf, toldOf } from "../../libraries/javascript/replies.mjs";
 import { ModuleLink } from "../module_link.mjs";
 
 const top = join(dirname(fileURLToPath(import.meta.url)), "../..");
-const module = join(top, "page/module/lgp_c_region.wasm");
+const module = join(top, "libraries/javascript/lgp_c_region.wasm");
 const skip = !existsSync(module);
 const exampleNamed = (name) => readFileSync(join(top, `examples/${name}.txt`), "utf8");
 const names = readdirSync(join(top, "examples"), { recursive: true }).map(String).filter((name) => name.endsWith(".txt")).map((name) => name.slice(0, -".txt".length));

@@ -1,19 +1,19 @@
-// The check of the page says exactly what ./check_task says: of each solution and each mistake what is beside it in tasks/solutions.
+// The check of the page says exactly what ./check_task says: of each solution and each mistake what is beside it in teaching/tasks/solutions.
 import assert from "node:assert/strict";
 import { existsSync, readFileSync, readdirSync } from "node:fs";
 import { dirname, join } from "node:path";
 import { test } from "node:test";
 import { fileURLToPath } from "node:url";
 import { tasksBelow } from "../documents.mjs";
-import { checked, setUpOf, speaker, taskIn } from "../task.mjs";
+import { checked, setUpOf, speaker, taskIn, textAtPage } from "../task.mjs";
 import { LANGUAGES } from "../words.mjs";
 import { ModuleLink } from "../module_link.mjs";
 
 const top = join(dirname(fileURLToPath(import.meta.url)), "../..");
-const module = join(top, "page/module/lgp_c_region.wasm");
+const module = join(top, "libraries/javascript/lgp_c_region.wasm");
 const skip = !existsSync(module);
-const { tasks, sentences } = tasksBelow(join(top, "tasks"), join(top, "examples"));
-const solutions = join(top, "tasks/solutions");
+const { tasks, sentences } = tasksBelow(join(top, "teaching/tasks"), join(top, "examples"));
+const solutions = join(top, "teaching/tasks/solutions");
 const read = (name) => readFileSync(join(solutions, name), "utf8");
 
 /** What the page says of sources, as ./check_task writes it. */
@@ -28,7 +28,7 @@ async function said(name, files, code) {
 }
 
 test("the page has all tasks, the shortest first, with their texts in each language of the page", () => {
-    const names = readdirSync(join(top, "tasks"), { withFileTypes: true }).filter((it) => existsSync(join(top, "tasks", it.name, "task"))).map(({ name }) => name);
+    const names = readdirSync(join(top, "teaching/tasks"), { withFileTypes: true }).filter((it) => existsSync(join(top, "teaching/tasks", it.name, "task"))).map(({ name }) => name);
     assert.deepEqual(Object.keys(tasks).sort(), names.sort());
     const minutes = Object.values(tasks).map(({ task }) => taskIn(task).minutes);
     assert.deepEqual(minutes, minutes.toSorted((one, other) => one - other));
@@ -73,7 +73,7 @@ test("odd sources get their sentences", { skip }, async () => {
 
 /** A task with each kind of line, its source, and of what is missing the sentences' names and words. */
 const OWN = "limit 50\nbegin put 0300 00000002\nmost orders 1\nmost times 2\nmost words 1\nwant counter 0000\nwant shows 0000 a 0300\nwant word 0300 00000004 2\nwant status halted overflow\n";
-const OWN_MISSING = [["ended-in", "halted stop", "halted overflow", "0002"], ["words", "2", "1"], ["counter", "0002", "0000"], ["shows", "0000", "b 0300", "a 0300"], ["word", "0300", "00000002", "00000004 (2)"]];
+const OWN_MISSING = [["ended-in", "halted stop", "halted overflow", "0002"], ["words", "2", "1"], ["counter", "0002", "0000"], ["shows", "0000", "b 0300", "a 0300"], ["word", "0300", "1 (00000002)", "2 (00000004)"]];
 
 test("a task of one's own: each kind of line, and a line in no form", { skip }, async () => {
     const check = (task) => checked(new ModuleLink(module), taskIn(task), "start b 0300\n z\n end start\n", { file: "two", sentences: sentences.en, code: "en" });
@@ -88,4 +88,18 @@ test("a machine is set up as the first try begins", () => {
     const task = taskIn(tasks.sum.task);
     assert.equal(setUpOf(task, null), "press manual\nput 0300 0000000f\nput 0301 0000000q\npress normal\npress start");
     assert.equal(setUpOf(task, " end\n"), `source\n end\n.\nload\n${setUpOf(task, null)}`);
+});
+
+test("at the page a task asks for no line that the page does by itself, and all else of its text is as it is", () => {
+    let changed = 0;
+    for (const { texts } of Object.values(tasks)) for (const [code, text] of Object.entries(texts)) {
+        const seen = textAtPage(text, "DONE:");
+        assert.doesNotMatch(seen, /type these lines|[Tt]ippe diese Zeilen|Load your program first|Lade zuerst/, `${seen.slice(0, 40)} in ${code}`);
+        const [before, after] = [text, seen].map((it) => it.trim().split(/\n\n+/));
+        assert.equal(before.length, after.length);
+        const others = before.filter((block, place) => block !== after[place]);
+        assert.ok(others.every((block) => block.endsWith(":")) && others.length <= 1);
+        changed += others.length;
+    }
+    assert.ok(changed >= 18, `${changed}`);
 });

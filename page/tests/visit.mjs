@@ -1,35 +1,47 @@
 // Visits the page: node visit.mjs laboratory.html [FOLDER FOR PICTURES]. Ends with 1 where something is not as it should be. The variable
-// ENGINE names the engine (chromium, firefox or webkit), and VISITS the visits, where not all are wanted.
+// ENGINE names the engine (chromium, firefox or webkit), and VISITS the visits, or `all`. Where it names none, Chromium makes all visits, and the
+// others those of main_visits.mjs.
 //
 // The page is opened from disk. A visitor of a museum sees the kiosk print; a class does what the first lesson says, and compares the
 // numbers of its tables with what the page shows; pupils do each lesson step by step, and solve tasks, and a visitor plays a game at the kiosk
-// (visits_lessons.mjs, visits_tasks.mjs, visits_game.mjs); a source with a fault is mended; each example gives its stored replies; a long run is
-// measured; a browser that lacks something is told; people who cannot see all, or have no mouse, reach all. After each visit the script that Save
-// gives is run, and has to end where the visit did: by the module, and by the program that LAB names where it names one.
+// (visits_lessons.mjs, visits_tasks.mjs, visits_game.mjs); a source with a fault is mended; a long run is measured; a browser that lacks
+// something is told; people who cannot see all, or have no mouse, reach all. After each visit the script that Save gives is run, and has to end
+// where the visit did: by the module, and by the program that LAB names where it names one.
 import assert from "node:assert/strict";
 import { spawnSync } from "node:child_process";
-import { mkdtempSync, readFileSync, readdirSync, rmSync, statSync, writeFileSync } from "node:fs";
+import { mkdtempSync, readFileSync, rmSync, writeFileSync } from "node:fs";
 import { tmpdir } from "node:os";
 import { dirname, join, resolve } from "node:path";
 import { fileURLToPath, pathToFileURL } from "node:url";
+import { WORD_TIME } from "../drive.mjs";
 import { withoutQuestions } from "../lines.mjs";
-import { bitsOf } from "../module/replies.mjs";
-import { packed } from "../packed.mjs";
+import { bitsOf } from "../../libraries/javascript/replies.mjs";
+import { packed, packedText } from "../packed.mjs";
+import { unpackedText } from "../unpacked.mjs";
 import { disorder, faint, losesFocus, nameless, noteMouse, unreached } from "./access.mjs";
 import { Chromium } from "./chromium.mjs";
 import { Firefox } from "./firefox.mjs";
+import { wantedVisits } from "./main_visits.mjs";
+import { withoutReasons } from "./replies.mjs";
 import { hiddenTexts, unhit } from "./seen.mjs";
 import { visitsOfEditor } from "./visits_editor.mjs";
 import { visitsOfExamples } from "./visits_examples.mjs";
+import { visitsOfExhibits } from "./visits_exhibits.mjs";
 import { visitsOfGames } from "./visits_game.mjs";
 import { visitsOfHand } from "./visits_hand.mjs";
 import { visitsOfKiosk } from "./visits_kiosk.mjs";
 import { lessonVisits } from "./visits_lessons.mjs";
 import { visitsOfLook } from "./visits_look.mjs";
+import { visitsOfOrder } from "./visits_order.mjs";
+import { visitsOfPaper } from "./visits_paper.mjs";
 import { visitsOfPeople } from "./visits_people.mjs";
 import { visitsOfPoints } from "./visits_points.mjs";
+import { visitsOfRows } from "./visits_rows.mjs";
 import { visitsOfStorage } from "./visits_storage.mjs";
+import { visitsOfSending } from "./visits_sending.mjs";
+import { visitsOfSure } from "./visits_sure.mjs";
 import { visitsOfTasks } from "./visits_tasks.mjs";
+import { visitsOfProjector } from "./visits_projector.mjs";
 import { visitsOfWishes } from "./visits_wishes.mjs";
 import { visitsOfWorkbench } from "./visits_workbench.mjs";
 import { WebKit } from "./webkit.mjs";
@@ -37,8 +49,7 @@ import { WebKit } from "./webkit.mjs";
 const [file, pictures] = process.argv.slice(2);
 const address = pathToFileURL(resolve(file)).href;
 const top = join(dirname(fileURLToPath(import.meta.url)), "../..");
-const shelf = join(top, "examples");
-const hour = readFileSync(join(top, "docs/lessons/a-computer-on-a-drum.md"), "utf8");
+const hour = readFileSync(join(top, "teaching/lessons/a-computer-on-a-drum.md"), "utf8");
 /** The engines, each with what is said to it so that it has no WebAssembly, and the visits that take too long in it. */
 const ENGINES = {
     chromium: { Engine: Chromium, without: ["--js-flags=--jitless"] },
@@ -51,9 +62,6 @@ const LEAST_SPEED = Engine === Chromium ? Number(process.env.LEAST_SPEED ?? 10e6
 const given = (name, otherwise) => Number(process.env[name] ?? otherwise);
 const [LEAST_PICTURES, LONGEST_TASK, LONGEST_STOP] = Engine === Chromium ? [given("LEAST_PICTURES", 30), given("LONGEST_TASK", 50), given("LONGEST_STOP", 100)] : [0, Infinity, Infinity];
 const LARGEST_DRIFT = given("LARGEST_DRIFT", 0.05);
-
-/** Replies as a script has them: what a refusal has in a session alone is its reason, behind a colon. */
-const withoutReasons = (replies) => replies.replace(/^(\? \d+ \w+(?: \d+)?): .*$/gm, "$1");
 
 const textOf = (browser, selector) => browser.value(`document.querySelector(${JSON.stringify(selector)})?.innerText ?? ""`);
 const settled = (browser) => browser.value("laboratoryOfPage().settled()");
@@ -106,7 +114,7 @@ async function picture(browser, name) {
 }
 
 /** What of the kiosk lies outside of the window, or is a large button lower than 84 pixels. */
-const outside = (browser) => browser.value(`[...document.querySelectorAll("#page *")].filter((it) => it.checkVisibility() && it.closest(".unseen, .well, .paper, .scope") === null).filter((it) => {
+const outside = (browser) => browser.value(`[...document.querySelectorAll("#page *")].filter((it) => it.checkVisibility() && it.closest(".unseen, .well, .paper, .scope, .carriage g") === null).filter((it) => {
     const { left, top, right, bottom, height } = it.getBoundingClientRect();
     return left < -1 || top < -1 || right > innerWidth + 1 || bottom > innerHeight + 1 || (it.matches(".kiosk-bar button") && height < 84);
 }).map((it) => it.tagName + "." + it.className)`);
@@ -126,8 +134,9 @@ const onTheDrum = (browser) => browser.value(`(() => {
 async function kiosk(browser) {
     await browser.open(`${address}?kiosk=message&offers=story,matches&lang=en&idle=4`);
     await browser.waitFor(isMoving);
-    assert.match(await textOf(browser, ".kiosk-told"), /^(Everything it knows is on this drum|Now it has the order)/);
-    await browser.waitFor("/^This order rewrites another one/.test(document.querySelector('.kiosk-told').textContent)");
+    assert.match(await textOf(browser, ".kiosk-told"), /^Everything it knows is on this drum/);
+    await browser.waitFor("/^y \\d{4} has just rewritten another order: [a-z] \\d{4} has become/.test(document.querySelector('.kiosk-told').textContent)");
+    assert.equal(await browser.value("document.querySelector('.kiosk-told code').textContent === document.querySelector('.hub-order').textContent"), true);
     const buttons = () => browser.value("[...document.querySelectorAll('.kiosk-bar button')].map((it) => it.textContent)");
     assert.deepEqual(await buttons(), ["Begin", "", "Take the last match", "Deutsch"]);
     for (const [width, height] of [[1920, 1080], [1024, 768], [768, 1024]]) {
@@ -168,7 +177,7 @@ async function kioskStory(browser, buttons) {
     await browser.waitFor("document.body.dataset.state === 'end' && laboratoryOfPage().panel.status === 'halted stop'");
     await settled(browser);
     assert.equal((await textOf(browser, ".paper")).trim(), "good day");
-    await browser.waitFor("/^It has printed “good day”\\. The machine performed 77 orders in [\\d,]+ turns of its drum\\..* Could it be faster\\?/.test(document.querySelector('.kiosk-told').textContent)");
+    await browser.waitFor("/^It has printed “good day”\\. The machine performed 77 orders in 120\\.7 turns of its drum\\..* Could it be faster\\?/.test(document.querySelector('.kiosk-told').textContent)");
     assert.deepEqual(await buttons(), ["Once more", "", "Take the last match", "Deutsch"]);
 }
 
@@ -179,7 +188,7 @@ async function addresses(browser) {
         assert.match(await textOf(browser, "#notice"), new RegExp(`names an unknown example: ${name}`));
         await browser.open(`${address}?lang=en&kiosk=${name}`);
         assert.match(await textOf(browser, "#notice"), new RegExp(`names an unknown example: ${name}. The kiosk shows message.`));
-        assert.match(await textOf(browser, ".kiosk-told"), /one after another/);
+        assert.match(await textOf(browser, ".kiosk-told"), /^Everything it knows is on this drum/);
     }
     await toTheEnd(browser, "tables/primes");
     assert.match(await textOf(browser, ".paper"), /^2 3 5 7 [^]* 89 97/);
@@ -275,11 +284,11 @@ async function openSource(browser) {
 async function whatToPress(browser) {
     await browser.open(`${address}?lang=en&door=work`);
     const way = () => textOf(browser, ".way");
-    assert.match(await way(), /Start sets it going/);
+    assert.match(await way(), /Press Start to run it/);
     await press(browser, "#step");
-    assert.match(await textOf(browser, "#notice"), /No order was performed\. The machine has stopped: Start/);
+    assert.match(await textOf(browser, "#notice"), /No order was performed\. The machine is stopped\. Press Start/);
     await press(browser, ".console button[data-name='manual']");
-    assert.match(await way(), /press Normal, then Start/);
+    assert.match(await way(), /Press Normal, then Start/);
     await started(browser, "put 0000 i", "put 0001 h 0050");
     assert.match(await way(), /Step performs its next order, Go on/);
     await press(browser, ".console button[data-name='start']");
@@ -576,11 +585,11 @@ async function doors(browser) {
     await press(browser, "#hall-stop");
     assert.deepEqual([await browser.value(isMoving), await textOf(browser, "#hall-stop"), (await panelOf(browser)).status], [false, "Let it turn", "going"]);
     const before = { counter: "0000", accumulator: "00000000", status: "halted operator", clock: "0" };
-    const shown = { look: [".tales"], learn: [".lesson", ".listing form"], work: [".flexo-body", ".telling-order", ".source", "#run-program", "#save", ".listing form"] };
+    const shown = { look: [".tales"], learn: [".lesson", ".listing form"], work: [".flexo-body", ".telling-order", ".source", "#run-program", ".listing form"] };
     // from each door to each other one
     for (const door of ["work", "look", "work", "learn", "look", "learn", "work"]) {
         await press(browser, `.doors [data-door-to="${door}"]`);
-        assert.deepEqual(await seenOf(browser, ".hall", ".tales", ".lesson", ".flexo-body", ".telling-order", ".source", "#run-program", "#save", ".listing form"), shown[door], door);
+        assert.deepEqual(await seenOf(browser, ".hall", ".tales", ".lesson", ".flexo-body", ".telling-order", ".source", "#run-program", ".listing form"), shown[door], door);
         const parts = [".scope", ".words-table", ".drum-box", ...(door === "look" ? [] : [".console", ".paper", ".pace"])];
         assert.deepEqual(await seenOf(browser, ".scope", ".words-table", ".drum-box", ".console", ".paper", ".pace"), parts, door);
         assert.deepEqual(await doorNow(browser), [door, door[0].toUpperCase() + door.slice(1)]);
@@ -596,7 +605,7 @@ async function doors(browser) {
 /** A visitor follows the stories: each caption plays its orders and stands; Back goes back; the last of a message lets it type. */
 async function look(browser) {
     await browser.open(`${address}?lang=en&door=look`);
-    assert.equal(await textOf(browser, ".caption"), "Choose a story.");
+    await browser.waitFor("/^The drum turns, and the head stands still\\./.test(document.querySelector('.caption').textContent)");
     const isReady = "document.querySelector('.caption').getAttribute('aria-busy') === 'false'";
     const tale = async (name) => { await press(browser, `[data-tale="${name}"]`); await browser.waitFor(`document.querySelector('.caption-at').textContent === '1 of 5' && ${isReady}`); await settled(browser); };
     const caption = async (at, selector = "#caption-next") => { await press(browser, selector); await browser.waitFor(`document.querySelector('.caption-at').textContent === '${at} of 5' && ${isReady}`); await settled(browser); };
@@ -732,7 +741,7 @@ async function source(browser) {
     const told = (pattern) => browser.waitFor(`${pattern}.test(document.querySelector('.source .told').textContent)`);
     await write(faulty);
     await told(/^Line 2: tow – no line has that label; perhaps two\.$/);
-    assert.deepEqual(await browser.value("['.fault .CodeMirror-linenumber', '.wave', '.fault-told', '.place'].map((it) => [...document.querySelectorAll('.source ' + it)].map((node) => node.textContent))"), [["2"], ["tow"], ["no line has that label; perhaps two"], ["0000 00010010", "0002 000j0018", "0003 00000000", "0004 00000002", "0005 00000004", "0006 00000000"]]);
+    assert.deepEqual(await browser.value("['.fault .CodeMirror-linenumber', '.wave', '.place'].map((it) => [...document.querySelectorAll('.source ' + it)].map((node) => node.textContent))"), [["2"], ["tow"], ["0000 00010010", "0002 000j0018", "0003 00000000", "0004 00000002", "0005 00000004", "0006 00000000"]]);
     await browser.value("document.querySelector('.source').scrollIntoView({ block: 'center' })");
     await picture(browser, "fault");
     await write(faulty.replace("tow", "two"));
@@ -781,7 +790,7 @@ async function costs(browser) {
         await press(browser, `tr[data-address="${place}"] button`);
         return ringOf(browser);
     };
-    assert.deepEqual(await ask("0128"), { told: "There is nothing to show: no order has been performed since the operator last did something.\nThe monitor says: no order named it, so its sector makes no difference", bars: 0, marks: [null, null], rows: 0 });
+    assert.deepEqual(await ask("0128"), { told: "There is nothing to show: no order has been performed since the operator last did something.\nThe monitor says: no order waited for it or stood there, so its sector makes no difference", bars: 0, marks: [null, null], rows: 0 });
     await press(browser, "#go-on");
     const [before, transcript] = [await panelOf(browser), await browser.value("laboratoryOfPage().transcript()")];
     const wage = await ask("0128");
@@ -791,7 +800,7 @@ async function costs(browser) {
     await ringIsOnItsSectors(browser);
     await browser.reveal(".costs");
     await picture(browser, "costs");
-    assert.match((await ask("0110")).told, /with 0110 week anywhere else: none of them named it\.\nThe monitor says: no order named it/);
+    assert.match((await ask("0110")).told, /^0110 week is an order of the program and must stay\. None of the last orders, .* waited for it as a word\.\nThe monitor says: it should not be moved/);
     assert.deepEqual((await ask("0127")).marks, ["27", "15"]);
     await browser.value("document.querySelector('.costs summary').click()");
     assert.deepEqual(await browser.value("[...document.querySelectorAll('.costs tr:is(.own, .best)')].map((it) => it.innerText.replace(/\\s+/g, ' '))"), ["15 150,565 the best sector", "27 150,629 its sector"]);
@@ -811,19 +820,6 @@ async function ringIsOnItsSectors(browser) {
         return [...document.querySelectorAll(".ring-of-costs .cost")].map((bar, place) => Math.abs(Math.sin((angleOf(bar) - numbers.get(names[place])) / 2))).filter((it) => it > 0.02).length;
     })()`);
     assert.equal(away, 0);
-}
-
-/** All examples give their stored replies, line by line in a session. */
-async function examples(browser) {
-    await browser.open(`${address}?lang=en&door=work`);
-    const names = readdirSync(shelf, { recursive: true }).map(String).filter((name) => name.endsWith(".txt")).sort();
-    for (const name of names) {
-        const path = join(shelf, name);
-        assert.ok(statSync(path).isFile());
-        const replies = await browser.value(`laboratoryOfPage().repliesTo(${JSON.stringify(readFileSync(path, "utf8"))})`);
-        assert.equal(withoutReasons(replies), readFileSync(path.replace(/txt$/, "expected"), "utf8"), name);
-    }
-    return names.length;
 }
 
 /** A loop without end runs fast, and can be stopped. */
@@ -887,7 +883,7 @@ const ownPace = (browser) => browser.value(`(async () => {
     const [began, clock] = await next();
     await new Promise((resolve) => setTimeout(resolve, 10_000));
     const [ended, reached] = await next();
-    return (0.26 * (reached - clock)) / (ended - began);
+    return (${WORD_TIME} * (reached - clock)) / (ended - began);
 })()`);
 
 /** Notes what the page says at each change of a run: the orders done, the counter, the clock twice, and the digits of the loop's sum. */
@@ -978,13 +974,13 @@ async function endlessPrint(browser) {
     await press(browser, "#notice button");
     assert.ok(await count() >= before + 20_000);
     assert.equal(await browser.value("document.activeElement.id"), "go-on");
-    for (let runs = 0; runs < 60 && !/begin a new one/.test(await textOf(browser, "#notice")); runs += 1) await press(browser, "#go-on");
-    assert.match(await textOf(browser, "#notice"), /nothing new is started\. Save your work, and begin a new one/);
+    for (let runs = 0; runs < 60 && !/start a new one/.test(await textOf(browser, "#notice")); runs += 1) await press(browser, "#go-on");
+    assert.match(await textOf(browser, "#notice"), /nothing new is started\. Save your project, and start a new one/);
     await press(browser, "#step");
     assert.match(await textOf(browser, "#notice"), /nothing new is started/);
     await browser.press("#notice button:nth-of-type(1)");
     await browser.waitFor("document.querySelector('dialog')");
-    assert.match(await textOf(browser, ".transcript"), /^put 0000 00083100\nput 0001 00081100\nput 0002 000f0000\npress start\nrun 2000\n/);
+    assert.match(await textOf(browser, ".transcript"), /^put 0000 00083100\nput 0001 00081100\nput 0002 000f0000\npress start\nrun 20000\n/);
     await browser.press("dialog > button");
     await browser.value("(() => { const { Blob } = globalThis; globalThis.Blob = function (parts, options) { globalThis.linked = parts[0]; return new Blob(parts, options); }; })()");
     await press(browser, "#notice button:nth-of-type(2)");
@@ -1008,7 +1004,7 @@ async function usedUp(browser) {
     assert.match(await textOf(browser, "#lost"), /The lines of a laboratory whose memory was full can be saved: Save laboratory\.txt/);
     assert.equal(await browser.value("laboratoryOfPage().lost[0].slice(0, 20)"), "put 0050 = 3\nsource\n");
     await press(browser, "#lost button");
-    assert.deepEqual([await textOf(browser, "#lost"), await browser.value("document.activeElement.id")], ["", "save"]);
+    assert.deepEqual([await textOf(browser, "#lost"), await browser.value("document.activeElement.className")], ["", "menu"]);
 }
 
 /** Dead buttons are shown dead, everything has a name, and German is there. */
@@ -1142,7 +1138,7 @@ async function byKeys(browser) {
     assert.notEqual(one, two);
     await browser.value("document.querySelector(`tr[data-address='0000'] button`).focus()");
     await browser.strike("Enter");
-    await browser.waitFor("/^The last orders, 1 in all, .* with 0000 anywhere else/.test(document.querySelector('.costs-told').textContent)");
+    await browser.waitFor("/^0000 is an order of the program and must stay\\. None of the last orders, 1 in all,/.test(document.querySelector('.costs-told').textContent)");
     assert.deepEqual(clocks, [one, two, one, two, one]);
     await browser.press("#about");
     await browser.press("#short-keys");
@@ -1151,6 +1147,8 @@ async function byKeys(browser) {
     assert.equal(await clock(), one);
     await browser.value("laboratoryOfPage().say('break 0100', 'break 0101')");
     assert.deepEqual(await losesFocus(browser, "#page button:not([data-name='key'], #kiosk)"), []);
+    await browser.value("document.querySelector('.menu').focus()");
+    await browser.strike("Enter");
     await browser.value("document.querySelector('#kiosk').focus()");
     await browser.strike("Enter");
     await browser.waitFor("document.querySelector('.kiosk-bar') !== null");
@@ -1158,7 +1156,7 @@ async function byKeys(browser) {
     assert.deepEqual(await losesFocus(browser, "#page button"), []);
     await browser.value("document.activeElement.dispatchEvent(new KeyboardEvent('keydown', { key: 'L', ctrlKey: true, shiftKey: true, bubbles: true }))");
     await browser.waitFor("document.querySelector('.lines input') !== null");
-    assert.equal(await browser.value("document.activeElement.id"), "kiosk");
+    assert.equal(await browser.value("document.activeElement.className"), "menu");
     await browser.reveal(".lines input");
     await browser.value("document.querySelector('.lines input').focus()");
     await browser.type("new");
@@ -1258,17 +1256,24 @@ async function cannotOpen() {
     const other = await Engine.start(800, 600);
     const folder = mkdtempSync(join(tmpdir(), "page-"));
     const page = readFileSync(file, "utf8");
-    const changed = async (old, young) => {
-        assert.ok(page.includes(old), old);
-        writeFileSync(join(folder, "page.html"), page.replace(old, () => young));
+    const replaced = (text, old, young) => {
+        assert.ok(text.includes(old), old);
+        return text.replace(old, () => young);
+    };
+    const changed = (old, young) => {
+        writeFileSync(join(folder, "page.html"), replaced(page, old, young));
         return sentence(other, pathToFileURL(join(folder, "page.html")).href);
     };
+    // the scripts lie packed in the page
+    const scripts = /(?<=id="parts">)[^<]*/.exec(page)[0];
+    const rewritten = (old, young) => changed(scripts, packedText(replaced(unpackedText(scripts), old, young)));
     try {
         assert.equal(await changed("<script>", "<script>delete globalThis.BigInt;</script><script>"), "");
         assert.deepEqual(other.told, []);
         assert.match(await changed("<script>\n(()=>{", "<script>\n65536nn;(()=>{"), /SyntaxError|Script error/);
-        assert.match(await changed(packed(readFileSync(join(top, "page/module/lgp_c_region.wasm"))), packed(Buffer.from("no module"))), /^these bytes are not a module that can be used here: /);
-        assert.match(await changed(`=${2 ** 26}){`, `=${2 ** 40}){`), /^there is not enough memory/);
+        assert.match(await rewritten("\0", "\0 65536nn;"), /SyntaxError|Script error/);
+        assert.match(await changed(packed(readFileSync(join(top, "libraries/javascript/lgp_c_region.wasm"))), packed(Buffer.from("no module"))), /^these bytes are not a module that can be used here: /);
+        assert.match(await rewritten(`=${2 ** 26}){`, `=${2 ** 40}){`), /^there is not enough memory/);
     } finally {
         await other.end();
         rmSync(folder, { recursive: true });
@@ -1277,7 +1282,7 @@ async function cannotOpen() {
 
 /** The replies of a script by each program that runs scripts. */
 function repliesTo(script) {
-    const module = [process.execPath, ...process.execArgv, join(top, "page/run_script.mjs"), join(top, "page/module/lgp_c_region.wasm")];
+    const module = [process.execPath, ...process.execArgv, join(top, "page/run_script.mjs"), join(top, "libraries/javascript/lgp_c_region.wasm")];
     const programs = process.env.LAB === undefined ? [module] : [module, [process.env.LAB]];
     return programs.map(([program, ...words]) => {
         const { status, stdout, stderr } = spawnSync(program, words, { input: script, encoding: "utf8", maxBuffer: 1 << 26 });
@@ -1346,8 +1351,8 @@ async function touch(browser) {
     await browser.size(1500, 1250);
 }
 
-const all = { ...visitsOfTasks(address), ...visitsOfGames(address), ...visitsOfHand(address), ...visitsOfExamples(address), ...visitsOfStorage(address), ...visitsOfKiosk(address), ...visitsOfLook(address), ...visitsOfPeople(address), ...visitsOfWishes(address), ...visitsOfPoints(address), ...visitsOfEditor(address), ...visitsOfWorkbench(address), kiosk, addresses, changes, thereAndBack, openSource, whatToPress, operated, endlessPrint, firstHour, lesson, stories, scope, doors, look, ...lessonVisits({ address, press, settled, steps, picture, textOf, sideways }), sound, saved, notLost, source, profile, costs, examples, badInput, usedUp, longRun, paces, forPeople, widths, everyone, byKeys, readOut, stillness, touch, withoutWebAssembly, cannotOpen };
-const wanted = process.env.VISITS?.split(" ") ?? Object.keys(all).filter((name) => !left.includes(name));
+const all = { ...visitsOfTasks(address), ...visitsOfGames(address), ...visitsOfHand(address), ...visitsOfExamples(address), ...visitsOfStorage(address), ...visitsOfKiosk(address), ...visitsOfExhibits(address, pictures), ...visitsOfLook(address), ...visitsOfOrder(address), ...visitsOfPaper(address), ...visitsOfSending(address), ...visitsOfSure(address), ...visitsOfPeople(address), ...visitsOfProjector(address), ...visitsOfWishes(address), ...visitsOfPoints(address), ...visitsOfEditor(address), ...visitsOfRows(address), ...visitsOfWorkbench(address), kiosk, addresses, changes, thereAndBack, openSource, whatToPress, operated, endlessPrint, firstHour, lesson, stories, scope, doors, look, ...lessonVisits({ address, press, settled, steps, picture, textOf, sideways }), sound, saved, notLost, source, profile, costs, badInput, usedUp, longRun, paces, forPeople, widths, everyone, byKeys, readOut, stillness, touch, withoutWebAssembly, cannotOpen };
+const wanted = wantedVisits(Object.keys(all), { named: process.env.VISITS, isMain: Engine !== Chromium, left });
 const visits = Object.fromEntries(wanted.map((name) => [name, all[name]]));
 let browser = await Engine.start();
 const toldByPages = [];

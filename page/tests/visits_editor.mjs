@@ -105,22 +105,60 @@ async function changedWords(browser, address) {
     assert.doesNotMatch(await browser.value("laboratoryOfPage().transcript()"), /numbers/);
 }
 
-/** What the check asks stands in no transcript, and a long line and its comment can be read whole. */
+/** What the check asks stands in no transcript. A long comment is one row, begins in the column of all comments, and can be read whole where the cursor goes; a comment alone begins where it is written. */
 async function apart(browser, address) {
     await browser.open(`${address}?lang=en&door=work`);
     await browser.write(` b 0050 ; ${"a long comment ".repeat(20)}\n end 0000`);
     await toldIs(browser, /^No fault: 1 words/);
     assert.deepEqual(await browser.value("[laboratoryOfPage().lines.length, laboratoryOfPage().assembled]"), [0, null]);
     assert.equal(await browser.value("laboratoryOfPage().transcript()"), "");
-    const width = await browser.value("(({ scrollWidth, clientWidth }) => scrollWidth - clientWidth)(document.querySelector('.source .CodeMirror-scroll'))");
-    assert.ok(width <= 60, `the text is ${width} pixels wider than the editor`);
+    const places = () => browser.value(`[...document.querySelectorAll(".source .CodeMirror-line .cm-comment")].map((it) => { const { left, height } = it.getBoundingClientRect(); return [Math.round(left), height < 25]; })`);
+    await browser.write("; alone\n b 0050 ; short\nstart   h 0051       ; in its column\n z; none\n end 0000");
+    const [[alone], [first, isLow], [second]] = await places();
+    assert.deepEqual([first === second, first > alone + 100, isLow], [true, true, true]);
+    await browser.write(` b 0050 ; ${"a long comment ".repeat(20)}\n end 0000`);
+    assert.deepEqual((await places())[0], [first, true]);
+    assert.equal(await browser.value("document.querySelector('.source .cm-comment').title"), "a long comment ".repeat(20));
+    await browser.value(`(${EDITOR}.focus(), ${EDITOR}.setCursor(0, 300), void ${EDITOR}.scrollIntoView(null))`);
+    await browser.strike("End");
+    await browser.waitFor(`${EDITOR}.cursorCoords(true, "window").left < document.querySelector(".source .CodeMirror").getBoundingClientRect().right`);
+    const [thought, real] = await browser.value(`[${EDITOR}.cursorCoords(true, "window").left, (() => { const it = getSelection().getRangeAt(0); return it.getClientRects()[0]?.left ?? null; })()]`);
+    assert.ok(real === null || Math.abs(thought - real) <= 1, `the caret is at ${real}, and the editor thinks that it is at ${thought}`);
+}
+
+/** What the words of a loaded source are stands at the edge of their lines, as what it is, also while the program runs: a whole number, an order that was changed. The digits beside the lines are seen when they are wanted. */
+async function values(browser, address) {
+    await browser.open(`${address}?lang=en&door=work`);
+    const edge = () => browser.value("[...document.querySelectorAll('.source .edge span')].map((it) => [it.dataset.line, it.textContent, it.className].join(' '))");
+    await browser.write("start   b count\n a one\n h count\n y change\nchange  a 0000\n h mark\n u start\ncount   int 0 29\none     int 1 29\nmark    word 00000000\n end start");
+    await toldIs(browser, /^No fault/);
+    assert.deepEqual(await edge(), []);
+    await browser.value("laboratoryOfPage().load(document.querySelector('.source .CodeMirror').CodeMirror.getValue())");
+    await browser.waitFor("document.querySelectorAll('.source .edge span').length === 2");
+    assert.deepEqual(await edge(), ["8 0 whole", "9 1 whole"]);
+    await browser.value("laboratoryOfPage().command('press start').then(() => laboratoryOfPage().run(700))");
+    await browser.waitFor("document.querySelectorAll('.source .edge span').length === 4");
+    assert.deepEqual(await edge(), ["5 a 0136 changed", "8 100 changed", "9 1 whole", "10 00000190 changed"]);
+    await browser.go("fast");
+    const counted = () => browser.value("Number(document.querySelector('.source .edge [data-line=\"8\"]')?.textContent.replaceAll(',', ''))");
+    await browser.waitFor("laboratoryOfPage().progress !== null && Number(document.querySelector('.source .edge [data-line=\"8\"]')?.textContent.replaceAll(',', '')) > 1000");
+    const before = await counted();
+    await pause(800);
+    assert.ok(await counted() > before, "the value at the edge stands still while the program runs");
+    await browser.halt();
+    await settled(browser);
+    const isSeen = () => browser.value("document.querySelector('.source .digits').checkVisibility()");
+    assert.equal(await isSeen(), false);
+    await browser.press("#digits-too");
+    assert.deepEqual([await isSeen(), await browser.value("document.querySelector('#digits-too').getAttribute('aria-pressed')")], [true, "true"]);
+    await browser.press("#digits-too");
 }
 
 /** Of 60 keys in a source of 5,000 lines the one that keeps the page busy longest, in milliseconds. */
 async function keys(browser, address) {
     await browser.open(`${address}?lang=en&door=work`);
-    await browser.write(Array.from({ length: 5000 }, (unused, line) => `${line < 3000 ? `l${line}` : ""}\t${line < 3000 ? "b 0050" : ""} ; a comment of this line`).join("\n"));
-    await toldIs(browser, /^Line 5001/);
+    await browser.write(Array.from({ length: 5000 }, (unused, line) => `${line < 3000 ? `l${line}` : ""}\t${line < 3000 ? "b 0050" : ""} ; a comment of this line`).concat(" end l0").join("\n"));
+    await toldIs(browser, /^No fault/);
     await browser.value(`(${EDITOR}.focus(), ${EDITOR}.setCursor(2500, 0), ${EDITOR}.scrollIntoView(null, 100))`);
     await pause(500);
     if (browser.ask === undefined) {
@@ -224,7 +262,25 @@ async function card(browser, address) {
     }
 }
 
-const VISITS = { card, changedWords, writing, editing, apart, keys, pasting, opening };
+/** A press on the bar of an order, by the mouse or by keys, says why it has waited, until another order is performed. */
+async function bars(browser, address) {
+    await browser.open(`${address}?lang=en&door=work`);
+    await browser.write("start b one\n a one\n z\none word 00000002\n end start");
+    await browser.value("document.querySelector('#run-program').click()");
+    await browser.waitFor("document.querySelectorAll('.accounts .account-bar').length === 3");
+    await settled(browser);
+    const [told, account] = await browser.value("(() => { const { at, order, find, seek, word } = laboratoryOfPage().accounts[1]; document.querySelectorAll('.accounts .account-bar')[1].click(); return [document.querySelector('.sentence-of-order').textContent, { at, order, find, seek, word }]; })()");
+    assert.match(told, new RegExp(`^${account.order} is at ${account.at}\\. When it was sought, sector \\d\\d was next under the head, so it came after ${account.find} places\\. Its word is at ${account.word}; then sector \\d\\d was next, so that came after ${account.seek} places\\.`));
+    await browser.value("document.querySelectorAll('.accounts .account-bar')[2].focus()");
+    if (browser.ask === undefined) await browser.value("document.activeElement.click()");
+    else await browser.strike("Enter");
+    assert.match(await browser.value("document.querySelector('.sentence-of-order').textContent"), /^b 0003 one is at 0000\./);
+    await browser.press("#back");
+    await settled(browser);
+    assert.doesNotMatch(await browser.value("document.querySelector('.sentence-of-order').textContent"), /was next under the head/);
+}
+
+const VISITS = { bars, card, changedWords, values, writing, editing, apart, keys, pasting, opening };
 
 /** The visits of the editor of the page at an address, by their names. */
 export const visitsOfEditor = (address) => Object.fromEntries(Object.entries(VISITS).map(([name, visit]) => [name, (browser) => visit(browser, address)]));

@@ -18,14 +18,14 @@ async function move(browser, count, [runs, then]) {
 }
 
 /** What of the kiosk lies outside of the window. */
-const outside = (browser) => browser.value(`[...document.querySelectorAll("#page *")].filter((it) => it.checkVisibility() && it.closest(".unseen, .well, .paper, .heap svg") === null).filter((it) => {
+const outside = (browser) => browser.value(`[...document.querySelectorAll("#page *")].filter((it) => it.checkVisibility() && it.closest(".unseen, .well, .paper, .heap svg, .carriage g") === null).filter((it) => {
     const { left, top, right, bottom } = it.getBoundingClientRect();
     return left < -1 || top < -1 || right > innerWidth + 1 || bottom > innerHeight + 1;
 }).map((it) => it.tagName + "." + it.className)`);
 
 const TEXTS = {
     en: { turn: "It is your turn", runs: "It is the machine's turn", took: "The machine has taken", won: "You have won!", lost: "The machine has won" },
-    de: { turn: "Sie sind am Zug", runs: "Die Maschine ist am Zug", took: "Die Maschine hat", won: "Sie haben gewonnen!", lost: "Die Maschine hat gewonnen" },
+    de: { turn: "Du bist am Zug", runs: "Die Maschine ist am Zug", took: "Die Maschine hat", won: "Du hast gewonnen!", lost: "Die Maschine hat gewonnen" },
 };
 
 /** A whole game in a language: each move of the visitor's and what is left after that of the machine's, and how it ends when the visitor takes three. */

@@ -1,6 +1,6 @@
 // Visits of the kiosk as an exhibit: it keeps nothing and touches nothing, it is left by its address or a key combination alone, it comes back to its beginning in its own language, and it fits its window.
 import assert from "node:assert/strict";
-import { hiddenTexts, laidOut, unhit } from "./seen.mjs";
+import { hiddenTexts, laidOut, numbersOf, unhit } from "./seen.mjs";
 
 const settled = (browser) => browser.value("laboratoryOfPage().settled()");
 const toldIn = (browser) => browser.value("document.querySelector('.kiosk-told').textContent");
@@ -86,7 +86,7 @@ async function kioskKeepsNothing(browser, address) {
 }
 
 /** Numbers that look like chance, the same in each run. */
-function chance(seed) {
+export function chance(seed) {
     let state = seed;
     return (below) => {
         state = (Math.imul(state, 1_664_525) + 1_013_904_223) >>> 0;
@@ -161,7 +161,7 @@ const STATES = {
     faster: [["2"], "document.body.dataset.state === 'faster' && document.querySelector('.faster').getAttribute('aria-busy') === 'false'"],
 };
 
-/** In each state, on lying and upright screens, no text is too small, cut off or upon another one, each button is hit by itself, and its number is by its text. */
+/** In each state, on lying and upright screens, no text is too small, cut off or upon another one, each of the four buttons is there and is hit by itself, its number is by its text, and one at most stands out. */
 async function kioskSeen(browser, address) {
     for (const code of ["en", "de"]) for (const [state, [keys, holds]] of Object.entries(STATES)) {
         await browser.size(1366, 768);
@@ -180,14 +180,40 @@ async function kioskSeen(browser, address) {
             await browser.size(width, height);
             await laidOut(browser);
             assert.deepEqual([...await hiddenTexts(browser), ...await unhit(browser)], [], `${code}, ${state} at ${width} by ${height}`);
-            assert.deepEqual(await browser.value("[document.querySelectorAll('.kiosk-bar button').length, document.documentElement.scrollHeight <= innerHeight]"), [4, true]);
+            assert.deepEqual(await browser.value("[[...document.querySelectorAll('.kiosk-bar button')].filter((it) => it.textContent !== '' && it.checkVisibility({ visibilityProperty: true })).length, document.documentElement.scrollHeight <= innerHeight]"), [4, true]);
+            assert.ok(await browser.value("[...document.querySelectorAll('.primary')].filter((it) => it.checkVisibility()).length <= 1"), `${code}, ${state} at ${width} by ${height}: more than one button stands out`);
         }
     }
     await browser.open(`${address}?lang=en&door=work`);
     await browser.size(1500, 1250);
 }
 
-const VISITS = { kioskSeen, kioskBeside, kioskReturns, kioskKeepsNothing, kioskAtRandom, kioskOnTelephones, kioskCaptions };
+/** The texts that are seen at the kiosk in letters of less than 18 pixels, but for the numbers of the sectors. */
+export const smallTexts = (browser) => browser.value(`[...document.querySelectorAll("#page *")].filter((it) => it.checkVisibility() && it.closest(".unseen, .cell, .room") === null && [...it.childNodes].some(({ nodeType, data }) => nodeType === 3 && data.trim() !== "")).filter((it) => {
+    const scale = it.ownerSVGElement == null ? 1 : it.getScreenCTM().a;
+    return parseFloat(getComputedStyle(it).fontSize) * scale < 17.9;
+}).map((it) => it.textContent.trim().slice(0, 30) + " of " + (it.getAttribute("class") ?? it.tagName))`);
+
+/** In windows of usual sizes what is told at the kiosk can be read from some steps away: while it plays by itself, in its story and at its end, in the game with the drum, and with the matches. */
+async function kioskLetters(browser, address) {
+    for (const [code, state, keys] of [["de", "attract", ""], ["de", "story", "122"], ["de", "faster", "2"], ["en", "matches", "3"]]) {
+        await browser.open(`${address}?kiosk=message&lang=${code}&idle=900`);
+        for (const key of keys) {
+            await strike(browser, key);
+            await settled(browser);
+        }
+        await browser.waitFor(STATES[state][1]);
+        for (const [width, height] of [[1024, 768], [1366, 768], [1920, 1080], [1080, 1920]]) {
+            await browser.size(width, height);
+            await laidOut(browser);
+            assert.deepEqual([await smallTexts(browser), await hiddenTexts(browser)], [[], []], `${state} at ${width} by ${height}`);
+            assert.ok(await numbersOf(browser) >= 9.95, `${state} at ${width} by ${height}: the numbers of the sectors`);
+        }
+    }
+    await browser.size(1500, 1250);
+}
+
+const VISITS = { kioskLetters, kioskSeen, kioskBeside, kioskReturns, kioskKeepsNothing, kioskAtRandom, kioskOnTelephones, kioskCaptions };
 
 /** The visits of the page at an address, by their names. */
 export const visitsOfKiosk = (address) => Object.fromEntries(Object.entries(VISITS).map(([name, visit]) => [name, (browser) => visit(browser, address)]));

@@ -8,7 +8,7 @@ import { solveLesson } from "../lesson_solver.mjs";
 import { textsIn } from "../words.mjs";
 import { hiddenTexts, numbersOf, unhit, unseen } from "./seen.mjs";
 
-const lessons = lessonsBelow(join(dirname(fileURLToPath(import.meta.url)), "../../docs/lessons"));
+const lessons = lessonsBelow(join(dirname(fileURLToPath(import.meta.url)), "../../teaching/lessons"));
 
 const NOW = ".lesson li.now";
 const START = ".console button[data-name='start']";
@@ -36,7 +36,9 @@ const one = (...actions) => async (browser, calls) => { for (const action of act
 const puts = (...words) => types(...words.map((word) => `put ${word}`));
 const word = (letters) => types(...[...letters].map((letter, place) => `put 000${place} p =${letter}`));
 
-const [drum, scope, phases, clock, paper] = [".drum-box", ".scope", ".phases", ".clock-turn", ".paper"];
+const reads = (...numbers) => one(...numbers.flatMap((number) => [types(`type ${number} '`), run]));
+
+const [drum, scope, phases, clock, paper] = [".drum-box", ".scope", ".phases", ".clock-turn", ".sheet"];
 
 /**
  * The steps of the lessons: what is done first, if anything; a usual mistake, as a wrong answer or as an action, after which the step is not done; and what mends it, if that is more
@@ -78,6 +80,13 @@ const DONE = {
         { errs: run, does: one(presses(".lesson h3 button"), steps(2)), sees: ["#step", scope] }, { first: steps(2), says: "9", sees: ["#step", phases] }, { says: "9", sees: [phases] }, { errs: hint, does: run, sees: ["#go-on"] },
         { isEarly: "6", mends: asks("0128"), says: "64", sees: [".listing form input", rowOf("0128"), drum] }, { says: "28", sees: [drum] }, { says: "150,629", sees: [".costs-told"] },
         { first: asks("0129"), says: "25", sees: [rowOf("0129"), drum] }, { first: asks("0132"), says: "29", sees: [rowOf("0132"), drum] },
+    ],
+    "what-can-a-forecast-know": [
+        { first: one(types("break steps"), run, run, run), says: "0010", sees: ["#go-on", paper] }, { first: types("numbers x 1"), says: "0009", sees: [`${NOW} .reply`, paper] },
+        { first: types("run 188800"), isEarly: "1720", mends: one(types("press transfer down"), run), says: "1720", sees: ["#go-on", paper] },
+        { errs: one(reads("1000", "-0059", "-0058"), types("type 0240 '"), hint), does: types("press transfer up"), sees: ["#go-on", paper] },
+        { first: types("run 79500"), says: "1475", sees: [paper] }, { says: "1630", sees: [paper] },
+        { first: types("run 160000"), says: "1615", sees: [paper] }, { says: "1645", sees: [paper] },
     ],
 };
 
@@ -162,7 +171,7 @@ const inBoth = (name, then = () => {}) => async (browser, calls) => {
 async function partsOfLessons(browser, calls) {
     const { address, press, steps: stepped, settled, textOf } = calls;
     await browser.open(`${address}?lang=en&lesson=nonesuch`);
-    assert.equal(await textOf(browser, "#notice"), "The address of this page names an unknown lesson: nonesuch. The lessons are a-computer-on-a-drum, where-a-word-costs-least, rewriting, reading-a-listing.");
+    assert.equal(await textOf(browser, "#notice"), "The address of this page names an unknown lesson: nonesuch. The lessons are a-computer-on-a-drum, where-a-word-costs-least, rewriting, reading-a-listing, what-can-a-forecast-know.");
     await browser.open(`${address}?lang=en&lesson=rewriting`);
     await reached(browser, 0);
     assert.equal(await textOf(browser, ".lesson summary"), lessons.en.rewriting.title);
@@ -223,7 +232,7 @@ async function race(browser, { press, textOf }) {
 
 const VISITS = {
     lessonOfADrum: inBoth("a-computer-on-a-drum"), lessonOfRewriting: inBoth("rewriting"), lessonOfAListing: inBoth("reading-a-listing"),
-    lessonOfCosts: inBoth("where-a-word-costs-least", race), partsOfLessons,
+    lessonOfWeather: inBoth("what-can-a-forecast-know"), lessonOfCosts: inBoth("where-a-word-costs-least", race), partsOfLessons,
 };
 
 /** The visits of the lessons, by their names, with the calls of the other visits. */

@@ -13,7 +13,7 @@ async function press(browser, selector) {
 const SIZES = [[390, 800], [768, 1024], [1024, 768], [1280, 720], [1440, 900], [1920, 1080]];
 
 /** Lists and texts that may be scrolled. */
-const LISTS = ".scroll, .with-arrows, .steps, .script-lines, .log, .transcript, .rows, .task-text, .task-answer, .explanation-text, .paper, .reply, .lines-of-step pre, .notice, .tells, .editor *, .lesson, .tab-panel, .tales > .line, .unseen";
+const LISTS = ".scroll, .with-arrows, .steps, .script-lines, .log, .transcript, .rows, .task-text, .task-answer, .explanation-text, .paper, .piece-rows, .reply, .lines-of-step pre, .notice, .tells, .editor *, .lesson, .tab-panel, .tales > .line, .unseen";
 
 /** Controls and drawings of which an ancestor cuts something off, and drawings that are too small to be seen. */
 const clipped = (browser) => browser.value(`[...document.querySelectorAll("#page :is(button, input, select, .editor, canvas, svg)")].filter((it) => it.checkVisibility() && it.closest(".drum-box") === null).flatMap((it) => {

@@ -1,11 +1,11 @@
-// Visits of the tasks: a pupil solves each one at the page, and gets the sentences that lie beside the solutions in tasks/.
+// Visits of the tasks: a pupil solves each one at the page, and gets the sentences that lie beside the solutions in teaching/tasks.
 import assert from "node:assert/strict";
 import { readFileSync, readdirSync } from "node:fs";
 import { dirname, join } from "node:path";
 import { fileURLToPath } from "node:url";
 import { disorder, faint, nameless, noteMouse, unreached } from "./access.mjs";
 
-const solutions = join(dirname(fileURLToPath(import.meta.url)), "../../tasks/solutions");
+const solutions = join(dirname(fileURLToPath(import.meta.url)), "../../teaching/tasks/solutions");
 const read = (name) => readFileSync(join(solutions, name), "utf8");
 const names = readdirSync(solutions).filter((name) => name.endsWith(".en")).map((name) => name.slice(0, -".en".length));
 
@@ -85,7 +85,7 @@ async function taskSources(browser, address) {
     assert.deepEqual([await sourceOf(browser), await browser.value("document.querySelector('.task-text h3').textContent")], [read("sum.source"), /^# (.*)$/m.exec(read("../sum/de.md"))[1]]);
     const put = async () => { await browser.press("#put-task"); await browser.waitFor("document.querySelector('.task-answer').textContent !== ''"); await settled(browser); };
     await put();
-    assert.deepEqual([await browser.value("laboratoryOfPage().panel.status"), await answerOf(browser)], ["going", ["Die Maschine steht, wo der erste Versuch beginnt: Schritt und Laufen gehen weiter."]]);
+    assert.deepEqual([await browser.value("laboratoryOfPage().panel.status"), await answerOf(browser)], ["going", ["Die Maschine steht, wo der erste Versuch beginnt: Schritt und Weiter gehen von hier aus weiter."]]);
     await browser.value("laboratoryOfPage().run()");
     assert.equal(await browser.value("laboratoryOfPage().say('words 0302 1')"), "0302 00000018\n");
     await write(browser, read("sum.wrong-2.source"));
@@ -131,5 +131,20 @@ async function taskForAll(browser, address) {
     await browser.ask?.("Accessibility.disable");
 }
 
+/** The files of a class, dropped on a task, are all checked, and what is said of them can be saved; the pupil's own source stays as it is. */
+async function taskClass(browser, address) {
+    await browser.open(`${address}?lang=de&task=sum`);
+    await write(browser, "start z\n end start\n");
+    const texts = ["sum.source", "sum.wrong-1.source"].map(read);
+    await browser.value(`void document.body.dispatchEvent(Object.assign(new Event("drop", { bubbles: true, cancelable: true }), { dataTransfer: {
+        files: Array.from({ length: 30 }, (unused, pupil) => new File([${JSON.stringify(texts)}[pupil % 2]], String(pupil).padStart(2, "0") + ".source")) } }))`);
+    await browser.waitFor("document.querySelector('dialog #save-class')");
+    assert.equal(await browser.value("document.querySelector('dialog p').textContent"), "15 von 30 Dateien sind richtig.");
+    const told = await browser.value("document.querySelector('dialog pre').textContent.split('\\n').filter((line) => !line.startsWith('    '))");
+    assert.deepEqual([told.length, told[0].startsWith("00.source: richtig"), told[1].startsWith("01.source: noch nicht")], [31, true, true]);
+    await browser.closeDialog();
+    assert.equal(await sourceOf(browser), "start z\n end start\n");
+}
+
 /** The visits of the page at an address, by their names. */
-export const visitsOfTasks = (address) => Object.fromEntries(Object.entries({ tasks, taskSources, taskForAll }).map(([name, visit]) => [name, (browser) => visit(browser, address)]));
+export const visitsOfTasks = (address) => Object.fromEntries(Object.entries({ tasks, taskSources, taskForAll, taskClass }).map(([name, visit]) => [name, (browser) => visit(browser, address)]));

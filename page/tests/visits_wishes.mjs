@@ -31,7 +31,7 @@ async function zoomed(browser, address) {
     await browser.size(1500, 1250);
 }
 
-/** With forced colours the drawings keep theirs, and the chosen pace, the next order and a step that is done are marked; in dark no text is faint. */
+/** With forced colours the drawings keep theirs, and the chosen pace, the order under way, what comes after it and a step that is done are marked; in dark no text is faint. */
 async function inFewColours(browser, address) {
     if (browser.media === undefined) return "but not looked at, since this browser cannot be told of colours";
     for (const behind of ["?story=2&caption=4", "?lesson=rewriting&step=12", "?door=work", "?kiosk=message"]) {
@@ -41,7 +41,9 @@ async function inFewColours(browser, address) {
         const drawn = [".drum-box", ".scope", ".tape-strip", ".timeline", ".platen", ".piece", ".strip", ".lever i", ".map-ground"];
         assert.deepEqual(await browser.value(`${JSON.stringify(drawn)}.filter((it) => document.querySelector(it) !== null && getComputedStyle(document.querySelector(it)).forcedColorAdjust !== "none")`), [], behind);
         assert.equal(await browser.value("(() => { const it = document.querySelector('.paces :checked')?.closest('label'); return it == null || getComputedStyle(it).backgroundColor !== getComputedStyle(it.nextElementSibling ?? it.previousElementSibling).backgroundColor; })()"), true, behind);
-        assert.equal(await browser.value("(() => { const it = document.querySelector('tr.next'); return it === null || getComputedStyle(it).outlineStyle === 'solid'; })()"), true, behind);
+        assert.equal(await browser.value("[['tr.now', 'solid'], ['tr.next', 'dashed']].every(([name, style]) => { const it = document.querySelector(name); return it === null || getComputedStyle(it).outlineStyle === style; })"), true, behind);
+        const chosen = ".tablist [aria-selected='true'], .doors [aria-current], button.primary, #caption-next";
+        assert.deepEqual(await browser.value(`(() => { const probe = document.createElement("i"); probe.style.cssText = "forced-color-adjust: none; color: HighlightText; background: Highlight"; document.body.append(probe); const wanted = [getComputedStyle(probe).color, getComputedStyle(probe).backgroundColor]; probe.remove(); return [...document.querySelectorAll(${JSON.stringify(chosen)})].filter((it) => it.checkVisibility()).filter((it) => [getComputedStyle(it).color, getComputedStyle(it).backgroundColor].some((colour, place) => colour !== wanted[place])).map((it) => it.textContent); })()`), [], `${behind}: what is chosen cannot be read`);
         await browser.media({ "prefers-color-scheme": "dark" });
         assert.deepEqual(await faint(browser), [], behind);
     }

@@ -167,7 +167,7 @@ const FIRST = {
     write: [".source .editor", ".verdict", "#load"],
     machine: [".status-of", ".drum-box", ".console .square", ".console .lever"],
     memory: [".listing tr.next", ".listing form input", ".listing form button"],
-    typewriter: [".sheet", ".tape input", ".tape button"],
+    typewriter: [".sheet", ".key-rows", "#tab-flexo-tape"],
 };
 
 /** On a small telephone nothing has to be scrolled to what is needed first, under no tab. */
@@ -244,7 +244,7 @@ async function lastOrders(browser, address) {
     assert.equal(await browser.value("laboratoryOfPage().history.ahead"), 1);
     await press(browser, "#step");
     await browser.halt();
-    await browser.value("[...document.querySelectorAll('.accounts tbody tr:not(.below) button')][2].click()");
+    await browser.value("[...document.querySelectorAll('.accounts tbody tr:not(.below) button.plain')][2].click()");
     await settled(browser);
     assert.equal(await browser.value("String(laboratoryOfPage().panel.clock)"), clock);
 }
@@ -341,20 +341,20 @@ async function sourceToldFirst(browser, address) {
     assert.equal(await browser.value("document.querySelector('.source .go-to-fault').checkVisibility()"), false);
     const says = (wanted) => browser.waitFor(`${wanted}.test(document.querySelector(".way").textContent)`);
     await browser.write(" q\n z\n end 0000");
-    await says(/^One fault: mend it, then run\.$/);
+    await says(/^One fault: correct it, then run\.$/);
     await browser.write(" q\n q\n end 0000");
-    await says(/^2 faults: mend them, then run\.$/);
+    await says(/^2 faults: correct them, then run\.$/);
     await press(browser, "#step");
     assert.deepEqual(await browser.value("[document.querySelector('#notice').checkVisibility(), document.querySelector('.way').checkVisibility()]"), [true, false]);
     await browser.write(" h 0002\n z\n end 0000");
-    await says(/^The machine has stopped: Start sets it going\.$/);
+    await says(/^The machine is stopped\. Press Start to run it\.$/);
     await press(browser, "#load");
     const [orders] = await browser.value("/[0-9]+/.exec(laboratoryOfPage().talk.findLast(({ line }) => line === 'load').reply)");
     await says(new RegExp(`^Loaded: 2 words, by the loader in ${orders} orders\\. The machine is going: Step performs its next order`));
     await press(browser, "#step");
     await says(/^The machine is going: Step performs its next order/);
     await browser.write(" q\n z\n end 0000");
-    await says(/^One fault: mend it, then run\. The machine holds what was loaded last\.$/);
+    await says(/^One fault: correct it, then run\. The machine holds what was loaded last\.$/);
     await browser.value("(() => { const it = document.getElementById('language'); it.value = 'de'; it.dispatchEvent(new Event('change')); })()");
     await says(/^Ein Fehler im Quelltext: erst beheben, dann starten\. In der Maschine ist, was zuletzt geladen wurde\.$/);
 }

@@ -7,8 +7,8 @@ import { guarded, h, showLive, tell } from "./dom.mjs";
 import { behind } from "./doors.mjs";
 import { makeGrips } from "./hand.mjs";
 
-/** How many pixels the pins may be beyond the sides of the drum's picture, and below it, where the machine's buttons are. */
-const BEYOND = [16, 2];
+/** How many pixels the pins may be beyond the sides of the drum's picture, below it, where the machine's buttons are, and above it, where its name is. */
+const BEYOND = [16, 2, 0];
 
 /** Word times more or less, in words. */
 const differenceOf = (saved, { text, code }) => (saved === 0 ? text("asManyTimes") : text(saved > 0 ? "fewerTimes" : "moreTimes", { times: counted(Math.abs(saved), code) }));
@@ -87,14 +87,14 @@ function toldOf(placing, nameOf, texts) {
     return text("carriedSays", { where, times: counted(times, code), saved: differenceOf(took - times, texts) });
 }
 
-/** The pins of the words on a drum, and what is told of them. `turning` says how far the drum has turned; `drafts` keeps where the words are; `write` writes their new places into the source. */
-export function makeCarried(laboratory, texts, drum, turning, drafts, write) {
+/** The pins of the words on a drum, and what is told of them. `turning` says how far the drum has turned; `drafts` keeps where the words are; `write` writes their new places into the source, and `reveals` has what is told of them seen. */
+export function makeCarried(laboratory, texts, drum, turning, drafts, write, reveals) {
     const { text, code } = texts;
     const words = new Words(laboratory, drafts);
     const nameOf = (address) => words.nameOf(address);
     const read = () => tell(said, told.textContent);
     const hands = {
-        sectorOf: (address) => words.placing.sectorOf(address), pick: () => {}, drop: read, refuse: (kind) => { tell(told, text(`pin_${kind}`)); read(); },
+        sectorOf: (address) => words.placing.sectorOf(address), pick: () => reveals(), drop: read, refuse: (kind) => { tell(told, text(`pin_${kind}`)); read(); },
         says: (address) => text("gripSays", { sector: inTwoDigits(hands.sectorOf(address)), times: counted(words.placing.times, code), saved: differenceOf(words.placing.saved(address), texts) }),
         move: (address, sector) => { words.move(address, sector); showCarried(); }, back: (address) => hands.move(address, sectorOf(address)),
     };

@@ -1,17 +1,15 @@
 // The console: buttons and switches, those that are dead shown dead, and the keys of the Flexowriter.
-import { SWITCHES } from "../module/replies.mjs";
-import { button, guarded, h, part, showLive } from "./dom.mjs";
+import { KEY_ROWS, SPACE, STOP } from "../flexowriter.mjs";
+import { LETTERS as OF_ORDERS } from "../machine.mjs";
+import { SWITCHES } from "../../libraries/javascript/replies.mjs";
+import { button, guarded, h, oneStop, part, showLive } from "./dom.mjs";
+import { makeBody } from "./flexowriter.mjs";
 
 /** The buttons, in the order of the console. */
 const BUTTONS = ["manual", "oneop", "normal", "start", "clear", "fill", "execute", "compute", "read"];
 
 /** What the monitor calls the keys that have a sign, and the key of the conditional stop. */
 const KEYS = { sign: "keys", stop: "stop" };
-
-/** The keys in their rows. The letter l is the digit 1, as on a typewriter. */
-const KEY_ROWS = ["1234567890-", "qwertyuiop+", "asdfghjk;/", "zxcvbnm,."];
-/** The letters of orders, whose keys are amber. */
-const OF_ORDERS = "zbyridnmpeuthcas";
 
 /** What a press of a dead control does: it says that, and what to press. */
 const tellDead = (laboratory, detail) => () => laboratory.tell({ kind: "dead", detail });
@@ -55,18 +53,38 @@ export function makeConsole(laboratory, { text, table }) {
     return { node: part("console", text("console"), group("buttons", buttons.slice(0, FIRST_ROW)), h("div", { class: "second-row" }, group("switches", switches), group("inputs", buttons.slice(FIRST_ROW)))), show };
 }
 
-/** The part of the page with the Flexowriter's keys. */
-export function makeKeyboard(laboratory, { text }) {
-    const key = (sign) => guarded(sign === " " ? "␣" : sign, { class: `key ${sign === " " ? "space" : OF_ORDERS.includes(sign) ? "of-order" : ""}`, "data-name": KEYS.sign, "aria-label": sign === " " ? text("space") : sign }, () => laboratory.command(`type ${sign}`), tellDead(laboratory, sign === " " ? text("space") : sign));
-    const rows = KEY_ROWS.map((row) => h("div", { class: "keys" }, ...[...row].map(key)));
-    const stop = guarded(text("conditionalStop"), { class: "key stop", "data-name": KEYS.stop }, () => laboratory.command("type '"), tellDead(laboratory, text("conditionalStop")));
-    const node = part("keyboard", text("keyboard"), h("div", { class: "key-rows" }, ...rows, h("div", { class: "keys last-row" }, key(" "), stop)));
+/** What a key is called. */
+const nameOfKey = (sign, { text }) => ({ [SPACE]: text("space"), [STOP]: text("conditionalStop") })[sign] ?? sign;
+
+/** The keys of the Flexowriter in their rows, each made by its sign. */
+const keysOf = (make) => [...KEY_ROWS.map(([row, setIn]) => h("div", { class: "keys", style: `--set-in: ${setIn}` }, ...[...row].map(make))), h("div", { class: "keys last-row" }, make(SPACE), make(STOP))];
+
+const kindOfKey = (sign) => ({ [SPACE]: "space", [STOP]: "stop" })[sign] ?? (OF_ORDERS.includes(sign) ? "of-order" : "");
+const signOn = (sign, stop) => ({ [SPACE]: "", [STOP]: stop })[sign] ?? sign;
+
+/** The part of the page with the Flexowriter's body. One of its keys is a stop of Tab, and arrows go among them; a dead one says why. */
+export function makeKeyboard(laboratory, texts, showing) {
+    const { text } = texts;
+    const key = (sign) => guarded(signOn(sign, text("condStop")), { class: `key ${kindOfKey(sign)}`, "data-key": sign, "data-name": sign === STOP ? KEYS.stop : KEYS.sign, "aria-label": nameOfKey(sign, texts) }, () => laboratory.command(`type ${sign}`), tellDead(laboratory, nameOfKey(sign, texts)));
+    const body = makeBody(laboratory, texts, showing, keysOf(key));
+    const node = part("keyboard", text("keyboard"), body.node);
+    const refresh = oneStop(body.node, ".keys", "key");
     let waited = false;
     const show = () => {
+        body.show();
         for (const control of node.querySelectorAll("button")) showLive(control, laboratory.live.has(control.dataset.name));
         const waits = laboratory.way.kind === "keys";
         if (waits && !waited) node.closest(".tab-panel")?.dispatchEvent(new Event("reveal"));
         waited = waits;
+        refresh();
     };
-    return { node, show };
+    return { node, show, frame: body.frame };
+}
+
+/** The Flexowriter's body where nobody types at it: a picture, whose keys go down by what the machine prints. */
+export function makeShownBody(laboratory, texts, showing) {
+    const key = (sign) => h("span", { class: `key ${kindOfKey(sign)}`, "data-key": sign }, signOn(sign, texts.text("stopKey")));
+    const { node, ...body } = makeBody(laboratory, texts, showing, keysOf(key));
+    for (const [name, value] of [["role", "img"], ["aria-label", texts.text("keyboard")]]) node.setAttribute(name, value);
+    return { node, ...body };
 }

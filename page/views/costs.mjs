@@ -5,15 +5,18 @@ import { h, part, tell } from "./dom.mjs";
 /** The sector with a mark, or null. */
 export const markedIn = ({ sectors }, mark) => sectors.find((it) => it[mark]) ?? null;
 
-/** The name of the sentence for a word: one that may be moved may lie best where it is. */
-const sentenceOf = ({ kind, saved }) => (kind === "free" && saved === 0 ? "best" : kind);
+/** The name of the sentence for a word: one that may be moved may lie best where it is, and an order may have been waited for as an order alone. */
+function sentenceOf({ kind, saved, sectors }) {
+    if (kind === "free" && saved === 0) return "best";
+    return kind === "performed" && sectors.length === 0 ? "order" : kind;
+}
 
 /** The sentence for what was told of a word, and below it what the monitor says where the word gains nothing or the run was refused. */
 export function costsText(costs, { text, table, code }) {
-    const [own, best] = [markedIn(costs, "isOwn"), markedIn(costs, "isBest")];
+    const least = markedIn(costs, "isBest")?.times ?? costs.times;
     const number = (value) => counted(value ?? 0, code);
     const values = {
-        word: [costs.address, costs.label].filter(Boolean).join(" "), own: own?.sector, best: best?.sector, least: number(best?.times),
+        word: [costs.address, costs.label].filter(Boolean).join(" "), own: costs.own, best: costs.best, least: number(least),
         orders: number(costs.orders), times: number(costs.times), saved: number(costs.saved),
     };
     const said = [costs.reason, costs.refusal].filter((it) => it !== null).map((reason) => text("monitorSays", { reason }));

@@ -27,13 +27,6 @@ export function part(name, heading, ...children) {
     return h("section", { class: `part ${name}`, "aria-labelledby": id }, h("h2", { id }, heading), ...children);
 }
 
-/** Shows new text in a place whose additions are read out: what was there already stays, so that only what is new is read. */
-export function tellMore(place, text) {
-    const before = place.textContent;
-    if (text.startsWith(before)) place.append(text.slice(before.length));
-    else place.textContent = text;
-}
-
 /** Fills a place anew: a node that stands there stays, and so does the focus, on the control that it was on, known by its `data-name`. */
 export function refill(place, ...nodes) {
     const name = place.contains(document.activeElement) ? document.activeElement.dataset.name : undefined;
@@ -44,6 +37,32 @@ export function refill(place, ...nodes) {
     });
     while (place.children.length > nodes.length) place.lastElementChild.remove();
     if (name !== undefined) place.querySelector(`[data-name="${CSS.escape(name)}"]`)?.focus();
+}
+
+/**
+ * Makes one stop of Tab of the buttons of a list: the one that had the focus last, else the one in a row that `first` selects, else the first one. Arrows, Home and End go among them. Gives what is called when the list
+ * was filled. The buttons are known by their `data-name`, or by another attribute of `data`.
+ */
+export function oneStop(list, first, by = "name") {
+    let last = null;
+    const buttons = () => [...list.querySelectorAll(`button[data-${by}]`)].filter((it) => it.checkVisibility());
+    const refresh = () => {
+        const all = buttons();
+        const stop = all.find(({ dataset }) => dataset[by] === last) ?? all.find((it) => it.closest(first) !== null) ?? all[0];
+        for (const it of all) it.tabIndex = it === stop ? 0 : -1;
+    };
+    list.dataset.stops = "one";
+    list.addEventListener("focusin", ({ target }) => { last = target.dataset[by] ?? last; refresh(); });
+    list.addEventListener("keydown", (event) => {
+        const all = buttons();
+        const at = all.indexOf(event.target);
+        const [before, after] = [Math.max(at - 1, 0), Math.min(at + 1, all.length - 1)];
+        const to = { ArrowUp: before, ArrowLeft: before, ArrowDown: after, ArrowRight: after, Home: 0, End: all.length - 1 }[event.key];
+        if (at < 0 || to === undefined) return;
+        event.preventDefault();
+        all[to].focus();
+    });
+    return refresh;
 }
 
 /** Gives a node a text, where it has another one: what stays the same is not laid out anew. */

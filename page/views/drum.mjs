@@ -1,9 +1,11 @@
 // The drum from its end: the head stands still, the ring of sectors turns below it. What is lit comes from replies; the look of ring, head and hub is the
 // page's own picture of the machine.
-import { SECTORS, positionOf, sectorOf } from "../addresses.mjs";
-import { bitsOf } from "../module/replies.mjs";
+import { SECTORS, sectorOf } from "../addresses.mjs";
+import { positionOf } from "../machine.mjs";
+import { bitsOf } from "../../libraries/javascript/replies.mjs";
 import { PHASES } from "../player.mjs";
-import { h, part, s } from "./dom.mjs";
+import { decimal } from "../words.mjs";
+import { h, part, s, tell } from "./dom.mjs";
 import { apart, inRadians, turned } from "./pins.mjs";
 
 /** The centre of the picture of 800 to 720, and what one word time turns. */
@@ -14,8 +16,10 @@ const WAY = 330;
 const WRITTEN_MILLISECONDS = 1100;
 /** How wide a cell is where its number stands: where there is less room than a number takes, each second one is seen. */
 const CELL = 29.5;
-/** Below this part of 800 pixels the pins keep their size. */
-const PIN = 0.58;
+/** How many times larger than in the picture pins are where that is small. */
+const SMALL = 1.6;
+/** The part of 800 pixels below which the pins keep their size, as the style sheet has it. */
+const pinOf = (box) => Number(getComputedStyle(box).getPropertyValue("--pin"));
 /** The trail: where it begins, how much further in it is after each turn, how many turns are seen of it, how wide waits and works are, and how faint it is at its end. */
 export const PEN = { radius: 246, pitch: 20, turns: 4.6, waits: 4.5, works: 15, faintest: 0.12 };
 
@@ -64,7 +68,7 @@ function triedMark({ sector, share, isBest }) {
     return s("path", { class: `tried ${isBest ? "best" : ""}`, d: `M ${fixed(at(from, radius))} ${arc(to, radius)} L ${fixed(at(to, 121))} ${arc(from, 121, 0)} Z` });
 }
 
-/** The ring of sectors. `mark` lights those of the next order and of its word, `light` any by the name of a class, `write` draws the words' bits, `cost` draws what the sectors would cost a
+/** The ring of sectors. `mark` lights those of the order under way, of its word, and of the order that comes next, `light` any by the name of a class, `write` draws the words' bits, `cost` draws what the sectors would cost a
  * word, `trace` which of them were tried, and `turn` turns it. */
 function makeRing() {
     const cells = Array.from({ length: SECTORS }, (unused, sector) => cell(sector));
@@ -75,7 +79,7 @@ function makeRing() {
     const svg = s("svg", { class: "ring", viewBox: box, "aria-hidden": "true" }, ...cells, ...plates(), ...bolts, costs, tries);
     // what an eye sees of it where nothing on it can be read: it lies above, so that the ring need not be drawn anew when it comes and goes
     const blur = s("svg", { class: "blur", viewBox: box, "aria-hidden": "true" }, s("circle", { class: "rim", cx: X, cy: Y, r: RING.rim }), ...[RING.numbers, 272].map((r) => s("circle", { class: "streak", cx: X, cy: Y, r })), ...plates());
-    const [drawn, marked] = [new Map(), { next: null, operand: null, written: null }];
+    const [drawn, marked] = [new Map(), { next: null, operand: null, written: null, now: null }];
     const mark = (marks) => {
         for (const kind of Object.keys(marked)) {
             const sector = sectorIn(marks[kind]);
@@ -103,46 +107,62 @@ function makeRing() {
     return { node: h("div", { class: "well" }, svg, blur), mark, light, write, cost, trace, turn: (position) => { svg.style.transform = `rotate(${-position * STEP}deg)`; } };
 }
 
-/** The size of a pin, and how far from the centre it lies at an angle. */
-const FLAG = { width: 64, height: 28 };
-const flagDistance = (angle) => 328 + (FLAG.height / 2) * Math.abs(Math.cos(inRadians(angle))) + (FLAG.width / 2) * Math.abs(Math.sin(inRadians(angle)));
+/** The sizes of pins, and how far from the centre they lie at an angle. */
+const FLAGS = { now: { width: 96, height: 30 }, next: { width: 66, height: 25 }, operand: { width: 64, height: 28 } };
+const flagDistance = (angle, { width, height }) => 314 + height / 2 + (height / 2) * Math.abs(Math.cos(inRadians(angle))) + (width / 2) * Math.abs(Math.sin(inRadians(angle)));
 
 /** The pin of an address; where it lies aside of its sector a line leads there. */
 function makePin(kind) {
-    const { width, height } = FLAG;
-    const [label, stem] = [s("text", { y: 6.5 }), s("path", { class: "stem" })];
-    const place = s("g", {}, s("g", { class: "flag" }, s("rect", { x: -width / 2, y: -height / 2, width, height, rx: kind === "next" ? 5 : 14 }), label));
-    const node = s("g", { class: `pin ${kind}` }, stem, place);
-    return { node, show: (address, own, angle) => {
-        node.classList.toggle("away", address === null);
-        if (address === null) return;
-        label.textContent = address;
+    const [label, stem, rect] = [s("text", { y: 6.5 }), s("path", { class: "stem" }), s("rect", { rx: kind === "operand" ? 14 : 5 })];
+    const place = s("g", {}, s("g", { class: "flag" }, rect, label));
+    const node = s("g", { class: `pin ${kind} away`, "data-kind": kind }, stem, place);
+    const hide = () => node.classList.add("away");
+    const show = ({ address, name, own, angle, flag: { width, height } }) => {
+        node.classList.remove("away");
+        node.dataset.address = address;
+        label.textContent = name;
+        for (const [key, value] of Object.entries({ x: -width / 2, y: -height / 2, width, height })) rect.setAttribute(key, value);
         stem.setAttribute("d", Math.abs(turned(own - angle)) < 2 ? "" : `M ${fixed(at(own, RING.outer))} L ${fixed(at(angle, WAY + 10))}`);
-        place.setAttribute("transform", `translate(${fixed(at(angle, flagDistance(angle)))})`);
-    } };
+        place.setAttribute("transform", `translate(${fixed(at(angle, flagDistance(angle, { width, height })))})`);
+    };
+    return { node, hide, show };
 }
 
+/** How far below the middle of the hub each of its texts stands. */
+const HUB_TEXTS = { order: -80, phase: -52, count: 18, below: 52, clock: 84 };
+
 /** What stands still: the head with its tip, the way still to go, the hub with its text, and the pins. */
-function makeFixed({ text }) {
-    const [next, operand] = [makePin("next"), makePin("operand")];
+function makeFixed({ text, code }) {
+    const pins = Object.fromEntries(["operand", "next", "now"].map((kind) => [kind, makePin(kind)]));
     const [tip, beam] = [s("path", { class: "tip", d: "M390 55h20l-10 9z" }), s("path", { class: "beam", d: `M393.5 64L${fixed(at(-1.3, RING.inner))}L${fixed(at(1.3, RING.inner))}L406.5 64z` })];
     const way = s("path", { class: "way-to-go" });
-    const [phase, count, below, clock] = [["hub-phase", -52], ["hub-count", 18], ["hub-below", 52], ["hub-clock", 84]].map(([name, y]) => s("text", { class: name, x: X, y: Y + y }));
+    const texts = Object.fromEntries(Object.entries(HUB_TEXTS).map(([name, y]) => [name, s("text", { class: `hub-${name}`, x: X, y: Y + y })]));
     const svg = s("svg", { class: "fixed", viewBox: "0 0 800 720", "aria-hidden": "true" },
         s("circle", { class: "casing", cx: X, cy: Y, r: WAY }), way,
         s("path", { class: "turns-left", d: `M ${fixed(at(-20, 350))} ${arc(-40, 350, 0)}` }), s("path", { class: "turns-left tip-of", d: `M ${fixed(at(-43.2, 350))} L ${fixed(at(-38.8, 343))} L ${fixed(at(-38.8, 357))} Z` }),
         beam, s("path", { class: "head face", d: "M346 0h108v28l-24 20h-20l-10 7-10-7h-20l-24-20z" }), tip, s("text", { class: "head-name", x: 400, y: 24 }, text("head")),
-        s("circle", { class: "hub", cx: X, cy: Y, r: 119 }), phase, count, below, clock, operand.node, next.node);
+        s("circle", { class: "hub", cx: X, cy: Y, r: 119 }), ...Object.values(texts), ...Object.values(pins).map(({ node }) => node));
     let size = 1;
+    /** On a small drum the pin of the order under way has no room for its letter. */
+    const flagOf = (kind) => (kind === "now" && size > SMALL ? FLAGS.next : FLAGS[kind]);
+    const showPins = (view, position) => {
+        const there = Object.keys(pins).filter((kind) => (view[kind] ?? null) !== null && !(kind === "next" && view.next === view.now));
+        const set = there.map((kind) => ({ name: kind, angle: angleOf(sectorOf(view[kind]), position), width: flagOf(kind).width * size, height: flagOf(kind).height * size }));
+        const angles = apart(set, flagDistance);
+        for (const { node, hide } of Object.values(pins)) if (!there.includes(node.dataset.kind)) hide();
+        for (const { name: kind, angle: own } of set) {
+            const address = view[kind];
+            pins[kind].show({ address, name: kind === "now" && size <= SMALL ? `${address} ${view.letter}` : address, own, angle: angles.get(kind), flag: flagOf(kind) });
+        }
+        pins.operand.node.classList.toggle("written", view.isWritten === true);
+    };
     const show = (view, position) => {
-        const pins = [["next", next], ["operand", operand]].map(([name, pin]) => ({ name, pin, angle: view[name] === null ? null : angleOf(sectorOf(view[name]), position), width: FLAG.width * size, height: FLAG.height * size }));
-        const angles = apart(pins.filter(({ angle }) => angle !== null), flagDistance);
-        for (const { name, pin, angle } of pins) pin.show(view[name], angle, angles.get(name));
+        showPins(view, position);
         svg.dataset.phase = view.phase ?? "rest";
         beam.classList.toggle("lit", view.isReading);
         way.setAttribute("d", view.left > 0 ? sweep(Math.min(view.left, SECTORS)) : "");
-        Object.entries({ phase: text(`hub_${view.phase ?? "rest"}`), count: view.count, below: view.below ?? (view.left > 0 ? text("placesToGo") : ""), clock: view.clock === null ? "" : `${text("clock")} ${view.clock}` })
-            .forEach(([name, value]) => { const node = { phase, count, below, clock }[name]; if (node.textContent !== value) node.textContent = value; });
+        const said = { order: view.order ?? "", phase: text(`hub_${view.phase ?? "rest"}`), count: view.count, below: view.below ?? (view.left > 0 ? text("placesToGo") : ""), clock: view.clock === null ? "" : `${text("clock")} ${decimal(view.clock, 0, code)}` };
+        for (const [name, value] of Object.entries(said)) tell(texts[name], value);
     };
     return { node: svg, show, resize: (factor) => { size = factor; } };
 }
@@ -205,15 +225,19 @@ function stroke(pen, { from, to, width }, colour, { radius, pitch, turns, fainte
     }
 }
 
-/** What the drum shows where the machine rests: the panel's place. */
-function atRest({ panel, operand }, isFast) {
-    return { clock: panel.clock, offset: 0, phase: isFast ? "turns" : null, next: panel.counter, operand, left: 0, count: isFast ? "↻" : "–", isReading: false, written: null };
+/** What the drum shows between orders: the one that was the last, as done, or, where orders pass too fast to be read, what comes next alone. */
+function atRest({ panel }, mark, isFast) {
+    const place = isFast ? { phase: "turns", now: null, order: null, operand: null, next: panel.counter } : { ...mark, next: mark.coming };
+    return { clock: panel.clock, offset: 0, left: 0, count: isFast ? "↻" : letterIn(place.order) ?? "–", isReading: false, written: null, ...place };
 }
 
+/** The letter of an order as it is written, without a sign that it may have; null where there is none. */
+const letterIn = (order) => order?.trim().replace(/^-/, "")[0] ?? null;
+
 /** What it shows while an order is played. */
-function whilePlayed({ account, offset, phase, counter, left }) {
-    const sign = account.printed === null ? account.order.trim()[0] : account.printed.sign ?? "·";
-    return { clock: account.clock, offset, phase, next: counter, operand: account.word, left, count: left > 0 ? String(Math.ceil(left)) : sign, isReading: left > 0 && left <= 1, written: null };
+function whilePlayed({ account, offset, left }, mark) {
+    const sign = account.printed === null ? letterIn(account.order) : account.printed.sign ?? "·";
+    return { clock: account.clock, offset, left, count: left > 0 ? String(Math.ceil(left)) : sign, isReading: left > 0 && left <= 1, written: null, ...mark, next: mark.coming };
 }
 
 /** Rings in place of the trail, where it passes too fast to be read: one for each of the last turns, as strong as the share of a phase in it. */
@@ -235,7 +259,7 @@ export function makePicture(texts, redraw) {
     const sized = (scale) => {
         box.style.setProperty("--scale", String(scale));
         box.classList.toggle("tight", scale * CELL < 12.1);
-        still.resize(Math.max(1, PIN / scale));
+        still.resize(Math.max(1, pinOf(box) / scale));
         redraw();
     };
     const [ring, trail, still] = [makeRing(), makeTrail(sized), makeFixed(texts)];
@@ -246,8 +270,8 @@ export function makePicture(texts, redraw) {
 /** The colours of the phases, each with its name. */
 export const makeKey = (nameOf, ...more) => h("p", { class: "key" }, ...PHASES.flatMap((phase) => [h("span", { class: `dot ${phase}` }), nameOf(phase), " "]), ...more);
 
-/** The part of the page that shows the drum. `playing` gives what is played at this moment, or null, `held` the order that has not yet done what it does; `isFast` whether it turns too fast to be read. */
-export function makeDrum(laboratory, texts, { playing, held, isFast }) {
+/** The part of the page that shows the drum. `playing` gives what is played at this moment, or null, `held` the order that has not yet done what it does, `markNow` the order under way; `isFast` tells whether it turns too fast to be read. */
+export function makeDrum(laboratory, texts, { playing, held, isFast, markNow }) {
     const { text } = texts;
     const { box, ring, trail, still } = makePicture(texts, () => { if (laboratory.panel !== null) frame(); });
     const key = makeKey(text, h("span", { class: "dot next" }), text("nextOrder"), " ", h("span", { class: "dot operand" }), text("operand"));
@@ -263,14 +287,17 @@ export function makeDrum(laboratory, texts, { playing, held, isFast }) {
     };
     const frame = () => {
         const played = isFast() ? null : playing();
-        const view = played === null ? atRest(laboratory, isFast()) : whilePlayed(played);
+        const mark = markNow();
+        const view = played === null ? atRest(laboratory, mark, isFast()) : whilePlayed(played, mark);
+        view.letter = letterIn(view.order);
         if (laboratory.isCounted && view.left > 0) Object.assign(view, { count: String(Math.floor(view.offset)), below: text("placesTurned") });
         if (played?.isHurried && played.phase === "act" && !played.done) view.below = text("shownFaster", { turns: Math.round(played.account.act / SECTORS) });
         view.written = isFast() ? null : writtenNow();
         const position = Number(view.clock % BigInt(SECTORS)) + view.offset;
         ring.turn(position % SECTORS);
-        ring.mark(view);
-        still.show({ ...view, clock: String(view.clock + BigInt(Math.floor(view.offset))) }, position);
+        ring.mark({ ...view, next: view.next === view.now ? null : view.next });
+        box.dataset.phase = view.phase ?? "rest";
+        still.show({ ...view, clock: view.clock + BigInt(Math.floor(view.offset)) }, position);
         trail.draw(passed(laboratory.accounts, view), isFast());
         box.classList.toggle("fast", isFast());
         box.dataset.moving = String(played !== null && !played.done);
@@ -283,8 +310,9 @@ export function makeDrum(laboratory, texts, { playing, held, isFast }) {
         ring.write(laboratory.track.map(({ address, text: digits }) => [sectorOf(address), address === stored?.address ? stored.before.digits : digits]));
         ring.cost(laboratory.costs);
         trail.node.classList.toggle("away", laboratory.costs !== null && laboratory.costs.sectors.length > 0);
-        const { panel: { clock, counter }, operand } = laboratory;
-        box.setAttribute("aria-label", isFast() ? text("drumRuns") : text("drumSays", { clock: String(clock), next: counter, operand: operand ?? "–" }));
+        const { panel: { clock, counter }, lastTold } = laboratory;
+        const last = lastTold === null ? "" : text("drumLast", { order: lastTold.order, at: lastTold.at ?? "–" });
+        box.setAttribute("aria-label", isFast() ? text("drumRuns") : text("drumSays", { clock: decimal(clock, 0, texts.code), next: counter, last }));
     };
     return { node: part("drum", text("drum"), box, key), box, ring, show, frame };
 }

@@ -3,7 +3,7 @@ import "codemirror/addon/dialog/dialog.js";
 import "codemirror/addon/hint/show-hint.js";
 import "codemirror/addon/search/search.js";
 import CodeMirror from "codemirror/lib/codemirror.js";
-import { askedAt, columnOf, labelsIn, operationsWith, tokensOf } from "../language.mjs";
+import { askedAt, columnOf, isLabelOnly, labelsIn, namedIn, operationsWith, tokensOf } from "../language.mjs";
 import { h } from "./dom.mjs";
 
 /** How many signs go into the editor at once, so that the page can be used while a longer text is put in by pieces; and how many words are offered. */
@@ -48,10 +48,26 @@ function makePieces(cm, text, at, origin, ended) {
     return pieces;
 }
 
-/** Sets in what of a long line is seen in further rows, so that it begins below the operation. */
-function hang(cm, { text }, node) {
-    const width = cm.defaultCharWidth() * Math.min(columnOf(text), 12);
-    Object.assign(node.style, { textIndent: `-${width}px`, paddingLeft: `${width + 4}px` });
+/** The column in which a comment begins at the least that stands after something. */
+const COMMENTS = 22;
+
+/** Sets the comment of a line in, so that comments have a column of their own. A long one is one row, and can be read whole where the mouse rests on it, or where the cursor goes. */
+function setIn(cm, { text }, node) {
+    const [shown, tokens] = [node.querySelector(".cm-comment"), tokensOf(text)];
+    const comment = tokens.at(-1);
+    if (shown === null || comment?.kind !== "comment") return;
+    shown.title = comment.text.replace(/^;\s*/, "");
+    const missing = tokens.length === 1 ? 0 : COMMENTS - CodeMirror.countColumn(text, comment.from, cm.getOption("tabSize"));
+    if (missing > 0) shown.style.marginLeft = `${missing * cm.defaultCharWidth()}px`;
+}
+
+/** Moves a label that was just written after blanks to the first column, where it belongs: what follows begins where the label did, or one blank after it. */
+function moveLabel(cm) {
+    const { line, ch } = cm.getCursor();
+    const text = cm.getLine(line);
+    const [, blanks, word] = /^([ \t]+)(\S+) $/.exec(text) ?? [];
+    if (word === undefined || ch !== text.length || !isLabelOnly(word)) return;
+    cm.replaceRange(word.padEnd(Math.max(blanks.length, word.length + 1)), CodeMirror.Pos(line, 0), CodeMirror.Pos(line, ch), "+input");
 }
 
 /** Begins a line below the operation of the one before. */
@@ -86,7 +102,8 @@ const COMPLETION_KEYS = {
 
 /** Opens the list of what completes the word before the cursor. As long as it is open it goes on with what is written. */
 function complete(cm, texts, commentOf) {
-    const labels = labelsIn(cm.getValue().split("\n"));
+    const lines = cm.getValue().split("\n");
+    const labels = [...labelsIn(lines), ...namedIn(lines, cm.getCursor().line)];
     const hint = () => completionsOf(cm, texts, labels, commentOf);
     cm.showHint({ hint, completeSingle: false, customKeys: COMPLETION_KEYS });
 }
@@ -111,7 +128,7 @@ function makeCodeMirror(name, texts, place) {
     const value = before === undefined ? CodeMirror.Doc("", mode) : before.swapDoc(CodeMirror.Doc("", mode));
     const gutters = ["stops", "CodeMirror-linenumbers", "places"];
     const { phrases } = texts.table;
-    const cm = CodeMirror(place, { value, mode, theme, gutters, phrases, lineNumbers: true, lineWrapping: true, inputStyle: "contenteditable", dragDrop: false, screenReaderLabel: texts.text("sourceLabel"), indentWithTabs: false, undoDepth: 1000, workTime: 20, workDelay: 100 });
+    const cm = CodeMirror(place, { value, mode, theme, gutters, phrases, lineNumbers: true, scrollbarStyle: "null", inputStyle: "contenteditable", dragDrop: false, screenReaderLabel: texts.text("sourceLabel"), indentWithTabs: false, undoDepth: 1000, workTime: 20, workDelay: 100 });
     editors.set(name, cm);
     return cm;
 }
@@ -131,34 +148,74 @@ function makeGutters(cm, made) {
     });
 }
 
-/** Marks the faults: the numbers of their lines, their words, and after each line what is wrong. */
+/** Shows at the right edge what `edgeOf` tells for the lines that are seen, by their numbers: a text and what it is, or null. Nothing is shown in the line where somebody writes. */
+function makeEdge(cm, edgeOf) {
+    const rows = h("div");
+    let shown = "";
+    const place = () => { rows.style.transform = `translateY(${-cm.getScrollInfo().top}px)`; };
+    const show = () => {
+        const { from, to } = cm.getViewport();
+        const own = cm.hasFocus() ? cm.getCursor().line : null;
+        const lines = Array.from({ length: to - from }, (unused, at) => from + at).filter((line) => line !== own);
+        const made = lines.map((line) => [line, edgeOf(line + 1)]).filter(([, value]) => value !== null);
+        if (JSON.stringify(made) === shown) return;
+        shown = JSON.stringify(made);
+        rows.replaceChildren(...made.map(([line, { text, is }]) => h("span", { class: is, style: `top: ${cm.heightAtLine(line, "local")}px`, "data-line": line + 1 }, text)));
+        place();
+    };
+    cm.getWrapperElement().append(h("div", { class: "edge", "aria-hidden": "true" }, rows));
+    cm.on("scroll", place);
+    for (const kind of ["viewportChange", "cursorActivity", "focus", "blur"]) cm.on(kind, show);
+    return show;
+}
+
+/** Marks the faults: the numbers of their lines, and their words. What is wrong is said below the editor: a text within it would push lines, and the cursor would stand beside it. */
 function makeMarks(cm) {
     let marks = [];
     return (faults) => cm.operation(() => {
         for (const clear of marks) clear();
-        marks = faults.flatMap(({ line, from, to, short, sentence }) => {
+        marks = faults.flatMap(({ line, from, to, sentence }) => {
             const at = Math.min(line, cm.lineCount()) - 1;
             const handle = cm.addLineClass(at, "gutter", "fault");
             const word = cm.markText({ line: at, ch: from }, { line: at, ch: Math.max(to, from) }, { className: "wave", title: sentence });
-            const told = cm.setBookmark({ line: at, ch: cm.getLine(at).length }, { widget: h("span", { class: "fault-told", title: sentence }, short), insertLeft: true });
-            return [() => cm.removeLineClass(handle, "gutter", "fault"), () => word.clear(), () => told.clear()];
+            return [() => cm.removeLineClass(handle, "gutter", "fault"), () => word.clear()];
         });
     });
 }
 
-/** Lights one line, and scrolls to it unless somebody writes. */
-function makeLight(cm) {
-    let lit = null;
-    return (line) => {
+/** Gives a line a class, in place of the one that had it. Gives what does so: whether another line has it now. */
+function makeLine(cm, wheres) {
+    let [lit, worn] = [null, ""];
+    return (line, name) => {
         const handle = line === null ? null : cm.getLineHandle(line - 1) ?? null;
-        if (handle === lit) return;
-        for (const where of ["background", "gutter"]) {
-            if (lit !== null) cm.removeLineClass(lit, where, "next");
-            if (handle !== null) cm.addLineClass(handle, where, "next");
+        if (handle === lit && name === worn) return false;
+        const isOther = handle !== lit;
+        for (const where of wheres) {
+            if (lit !== null) cm.removeLineClass(lit, where, worn);
+            if (handle !== null) cm.addLineClass(handle, where, name);
         }
-        lit = handle;
-        if (handle !== null && !cm.hasFocus()) cm.scrollIntoView({ line: line - 1, ch: 0 }, 60);
+        [lit, worn] = [handle, name];
+        return isOther && handle !== null;
     };
+}
+
+/** Marks the line of the order under way, in its phase, and that of what comes after it, and scrolls there unless somebody writes. */
+function makeLight(cm) {
+    const [now, next] = [makeLine(cm, ["background", "gutter"]), makeLine(cm, ["background"])];
+    return (lines) => cm.operation(() => {
+        const isNew = [now(lines.now, `now ${lines.phase}`), next(lines.coming === lines.now ? null : lines.coming, "next")].includes(true);
+        if (isNew && !cm.hasFocus()) cm.scrollIntoView({ line: (lines.now ?? lines.coming) - 1, ch: 0 }, 60);
+    });
+}
+
+/** Tells the number of the line in which somebody writes, until it is left; null where nobody does. */
+function makeInWork(cm) {
+    let line = null;
+    const now = () => cm.getCursor().line + 1;
+    cm.on("changes", (unused, changes) => { if (changes.some(({ origin }) => origin?.startsWith("+") || origin === "paste")) line = now(); });
+    cm.on("cursorActivity", () => { if (now() !== line) line = null; });
+    cm.on("blur", () => { line = null; });
+    return () => line;
 }
 
 /** What is written, and what is put in from outside; a long text in pieces. `changed` is told the text. */
@@ -202,26 +259,30 @@ function makeText(cm, changed) {
 
 /**
  * An editor. `changed` is told the text that is written, `actions` has what its keys do by their names, and `beside` tells for a line what stands beside it: a text that says whether that is
- * new, and its nodes by gutter, or null where that is not known; `commentOf` tells what is said of a label that completes a word.
+ * new, and its nodes by gutter, or null where that is not known; `edgeOf` tells what stands at its right edge; `commentOf` tells what is said of a label that completes a word.
  */
-export function makeEditor(name, texts, { changed, actions = {}, beside = () => ["", {}], commentOf = (line, rest) => rest, pressed = () => {}, moved = () => {} }) {
+export function makeEditor(name, texts, { changed, actions = {}, beside = () => ["", {}], edgeOf = () => null, commentOf = (line, rest) => rest, pressed = () => {}, moved = () => {} }) {
     const node = h("div", { class: "editor" });
     const cm = makeCodeMirror(name, texts, node);
     for (const [attribute, is] of [["role", "textbox"], ["aria-multiline", "true"], ["data-name", `editor-${name}`]]) cm.getInputField().setAttribute(attribute, is);
     const completes = () => complete(cm, texts, commentOf);
     cm.setOption("extraKeys", keysOf(actions, completes));
     const text = makeText(cm, changed);
-    const gutters = makeGutters(cm, beside);
+    const [gutters, edge] = [makeGutters(cm, beside), makeEdge(cm, edgeOf)];
     cm.on("viewportChange", gutters);
-    cm.on("renderLine", hang);
+    cm.on("renderLine", setIn);
+    cm.on("inputRead", (unused, { origin, text: [typed] }) => { if (origin === "+input" && typed === " ") moveLabel(cm); });
     cm.on("inputRead", (unused, { origin, text: [typed] }) => { if (origin === "+input" && /^[a-z]$/.test(typed) && !cm.state.completionActive) completes(); });
-    cm.on("cursorActivity", moved);
+    const inWork = makeInWork(cm);
+    for (const kind of ["cursorActivity", "blur"]) cm.on(kind, moved);
     cm.on("gutterClick", (unused, line) => pressed(line + 1));
+    // what is written is read out, and not what stands beside it
+    cm.on("update", () => { for (const it of node.querySelectorAll(".CodeMirror-gutter-wrapper:not([aria-hidden])")) it.setAttribute("aria-hidden", "true"); });
     new ResizeObserver(() => cm.refresh()).observe(node);
     const goTo = (line, from, to) => {
         cm.focus();
         cm.setSelection({ line: line - 1, ch: from }, { line: line - 1, ch: to });
         cm.scrollIntoView({ line: line - 1, ch: from }, 60);
     };
-    return { node, value: text.value, set: text.set, rewrite: (written) => cm.replaceRange(written, CodeMirror.Pos(0, 0), CodeMirror.Pos(cm.lastLine())), isWhole: text.isWhole, showBeside: gutters, showFaults: makeMarks(cm), light: makeLight(cm), goTo, focus: () => cm.focus(), line: () => cm.getCursor().line + 1, operation: () => tokensOf(cm.getLine(cm.getCursor().line)).find(({ kind }) => kind === "operation")?.text ?? null };
+    return { node, value: text.value, set: text.set, rewrite: (written) => cm.replaceRange(written, CodeMirror.Pos(0, 0), CodeMirror.Pos(cm.lastLine())), isWhole: text.isWhole, showBeside: () => { gutters(); edge(); }, seen: () => cm.getViewport(), refresh: () => cm.refresh(), showFaults: makeMarks(cm), light: makeLight(cm), goTo, focus: () => cm.focus(), inWork, line: () => cm.getCursor().line + 1, operation: () => tokensOf(cm.getLine(cm.getCursor().line)).find(({ kind }) => kind === "operation")?.text ?? null };
 }

@@ -1,5 +1,6 @@
 // The drum in the hand: words are taken by their pins and carried to other sectors, by a finger, a mouse or keys.
-import { SECTORS, positionOf, sectorAt } from "../addresses.mjs";
+import { SECTORS } from "../addresses.mjs";
+import { positionOf, sectorAt } from "../machine.mjs";
 import { counted } from "../words.mjs";
 import { h, s } from "./dom.mjs";
 import { STEP, X, Y, angleOf, at, fixed } from "./drum.mjs";
@@ -51,12 +52,13 @@ function makeGrip({ address, name }, hands, place) {
     node.addEventListener("keydown", (event) => {
         const by = MOVES[event.key];
         const isBack = ["Home", "Escape"].includes(event.key);
-        if ((by === undefined && !isBack) || event.ctrlKey || event.altKey || event.metaKey) return;
+        if ((by === undefined && !isBack) || event.ctrlKey || event.altKey || event.metaKey) return undefined;
         event.preventDefault();
         event.stopPropagation();
+        if (event.key === "Escape" && before !== null) return end(true);
         if (isBack) hands.back(address);
         else move(sectorAt(positionOf(hands.sectorOf(address)) + by));
-        hands.drop(address);
+        return hands.drop(address);
     });
     return node;
 }
@@ -64,7 +66,7 @@ function makeGrip({ address, name }, hands, place) {
 /** The pin of a word that may not be moved: it has no grip, and says why when it is pressed. */
 const makeFixedPin = ({ address, name, kind }, hands) => h("button", { type: "button", class: `grip fixed ${kind}`, "data-word": address, onclick: () => hands.refuse(kind) }, name);
 
-/** The pins of words around a drum; `show` gives the angles at which they lie, and is told how many pixels beyond the picture's sides, and below it, they may be. `hands` has `sectorOf` and `says` of a word by its address, `pick`, `move`, which moves it to a sector,
+/** The pins of words around a drum; `show` gives the angles at which they lie, and is told how many pixels beyond the picture's sides, below it and above it they may be. `hands` has `sectorOf` and `says` of a word by its address, `pick`, `move`, which moves it to a sector,
  * `back`, which moves it to its own, `drop`, and `refuse`, which is told the kind of a word that may not be moved. */
 export function makeGrips(box, hands) {
     const lines = s("svg", { class: "stems", viewBox: "0 0 800 720", "aria-hidden": "true" });
@@ -76,15 +78,18 @@ export function makeGrips(box, hands) {
         layer.replaceChildren(...grips.values());
         lines.replaceChildren();
     };
-    const show = (now, scale, isBest, beyond, below = Infinity) => {
+    const show = (now, scale, isBest, beyond, below = Infinity, above = Infinity) => {
         position = now;
         const pins = [...grips].map(([name, node]) => ({ name, angle: angleOf(hands.sectorOf(name), now), width: Math.max(PIN.width, node.offsetWidth / scale), height: Math.max(PIN.height, node.offsetHeight / scale) }));
         const angles = apart(pins, distanceOf);
-        lines.replaceChildren(...pins.map((pin) => s("path", { d: `M ${fixed(at(pin.angle, 319))} L ${fixed(at(angles.get(pin.name), distanceOf(angles.get(pin.name), pin)))}` })));
-        for (const pin of pins) {
-            const [node, [wide, low], cell] = [grips.get(pin.name), at(angles.get(pin.name), distanceOf(angles.get(pin.name), pin)), at(pin.angle, 290)];
+        const placeOf = (pin) => {
+            const [wide, low] = at(angles.get(pin.name), distanceOf(angles.get(pin.name), pin));
             const most = 400 + beyond / scale - pin.width / 2;
-            const [x, y] = [400 + Math.max(-most, Math.min(most, wide - 400)), Math.min(720 + below / scale - pin.height / 2, low)];
+            return [400 + Math.max(-most, Math.min(most, wide - 400)), Math.max(pin.height / 2 - above / scale, Math.min(720 + below / scale - pin.height / 2, low))];
+        };
+        lines.replaceChildren(...pins.map((pin) => s("path", { d: `M ${fixed(at(pin.angle, 319))} L ${fixed(placeOf(pin))}` })));
+        for (const pin of pins) {
+            const [node, [x, y], cell] = [grips.get(pin.name), placeOf(pin), at(pin.angle, 290)];
             Object.assign(node.style, { left: `${x / 8}%`, top: `${y / 7.2}%` });
             node.classList.toggle("best", isBest(pin.name));
             if (node.matches(".fixed")) continue;

@@ -1,35 +1,39 @@
 // The kiosk: one program that plays by itself with captions until it is touched, a story of its first orders, a game, four large buttons in each state, and a return to the beginning after a time without input.
-import { SECTORS } from "../addresses.mjs";
-import { counted } from "../words.mjs";
+import { headOf } from "../lines.mjs";
+import { counted, turnsOf } from "../words.mjs";
 import { button, h, tell } from "./dom.mjs";
 import { KIOSK_GAMES, standsIn } from "./kiosk_game.mjs";
-import { rewrittenBy } from "./says.mjs";
+import { happeningIn, rewrittenBy } from "./says.mjs";
 import { sentenceOf } from "./story.mjs";
 
-/** For how long a caption stands at least, in milliseconds. That an order has been rewritten is told at once, and stands by its own time. */
-const STANDS = { caption: 2600, write: 2200 };
+/** For how long each of the captions stands that hold at any moment, in milliseconds. */
+const STANDS = 9000;
 
-/** What happens in an order that is played, by the name of its caption. */
-function happening(at) {
-    if (at === null) return null;
-    const { account, phase, done } = at;
-    if (done && rewrittenBy(account) !== null) return "write";
-    if (phase === "act" && account.printed !== null) return "type";
-    return phase === "seek" ? "seek" : "find";
+/** The captions that hold at any moment, one after another: that there is a drum, that it is waited for, and what this program is about. */
+function lastingIn({ script }, { text }) {
+    const { title } = headOf((script?.lines ?? []).join("\n"));
+    return [text("kiosk_drum"), text("kiosk_waits"), ...(title === "" ? [] : [text("kioskProgram", { title: `${title}.` })])];
 }
 
-/** The caption of what happens, one after another, each for its time at least. */
-function makeCaptions() {
-    let [shown, until] = [null, 0];
-    return (kind) => {
-        const now = performance.now();
-        if (kind !== null && kind !== shown && (now >= until || kind === "write")) [shown, until] = [kind, now + (STANDS[kind] ?? STANDS.caption)];
-        return shown ?? "find";
+/** What is told while a program plays by itself: of the order under way, whose tile stands before it, or, where that is nothing that can be read in its time, what holds at any moment. Where nothing may move the
+ * captions follow one another as the exhibit says. */
+function makeHappenings(laboratory, texts, { drive, playing, markNow, isStill }, exhibit, told) {
+    let [shown, began] = [null, performance.now()];
+    const lasting = () => {
+        const all = lastingIn(laboratory, texts);
+        return all[(isStill() ? exhibit.captions : Math.floor((performance.now() - began) / STANDS)) % all.length];
+    };
+    return () => {
+        const [mark, account] = [markNow(), playing()?.account ?? laboratory.lastTold];
+        const happening = drive.pace === null ? null : happeningIn(mark, account, drive.isTelling);
+        const said = happening === null ? lasting() : texts.text(happening.name, happening.values);
+        const key = `${happening === null ? "" : `${mark.now} ${mark.order}`} ${said}`;
+        if (key === shown && told.dataset.of === (happening === null ? "" : mark.now ?? "")) return;
+        shown = key;
+        told.dataset.of = happening === null ? "" : mark.now ?? "";
+        told.replaceChildren(...(happening === null ? [said] : [h("code", { class: "order-tile" }, mark.order), " ", said]));
     };
 }
-
-/** The captions that follow one another where nothing may move. */
-const IN_TURN = ["find", "seek", "write", "type"];
 
 /** How long a printed text is told, at most. */
 const SHORT = 40;
@@ -42,11 +46,12 @@ function waitedIn({ accounts, history: { behind, forgotten } }) {
 }
 
 /** What is told at the end of the story: what the machine did, and a question. */
-function endText(laboratory, { text, code }, exhibit) {
-    const { history: { behind, forgotten }, panel, printed, way } = laboratory;
+function endText(laboratory, texts, exhibit) {
+    const { text, code } = texts;
+    const { history: { behind, forgotten }, panel, begunAt, printed, way } = laboratory;
     if (way.kind === "keys") return text("kioskKeys");
     const [paper, waited] = [printed.text.trim(), waitedIn(laboratory)];
-    const did = text("kioskDid", { orders: counted(behind + forgotten, code), turns: counted(Math.round(Number(panel.clock) / SECTORS), code) });
+    const did = text("kioskDid", { orders: counted(behind + forgotten, code), turns: turnsOf(Number(panel.clock - begunAt), texts) });
     return [paper !== "" && paper.length <= SHORT ? text("kioskHasPrinted", { paper }) : text("kioskHasEnded"), did, waited === null ? "" : text("kioskWaited", { share: waited }), text(exhibit.offers("faster") ? "kioskAsksFaster" : "kioskAsks")].filter((it) => it !== "").join(" ");
 }
 
@@ -61,16 +66,17 @@ function storyNodes(laboratory, texts, { held }, exhibit) {
 /** What is told at the top, in each state: in the story what the order does, in the game whose turn it is, while it plays what happens, and at the end what was done. */
 function makeTold(laboratory, texts, showing, exhibit) {
     const { text } = texts;
-    const { drive, playing, held, isStill } = showing;
+    const { drive, held } = showing;
     const told = h("p", { class: "kiosk-told", role: "status" });
-    const captionOf = makeCaptions();
+    const happens = makeHappenings(laboratory, texts, showing, exhibit, told);
     const turn = standsIn([...KIOSK_GAMES.values()][0], laboratory, texts, drive);
-    const happens = () => (isStill() && exhibit.captions > 0 ? text(`kiosk_${IN_TURN[(exhibit.captions - 1) % IN_TURN.length]}`) : drive.pace === null ? text("kioskIntro") : text(`kiosk_${captionOf(happening(playing()))}`));
-    const says = { attract: happens, show: happens, matches: turn, end: () => (drive.pace === null ? endText(laboratory, texts, exhibit) : text("kioskRuns")) };
+    const says = { matches: turn, end: () => (drive.pace === null ? endText(laboratory, texts, exhibit) : text("kioskRuns")) };
     let shown = null;
     const frame = () => {
         const { state, at } = exhibit;
         told.setAttribute("aria-live", state === "attract" ? "off" : "polite");
+        if (state === "attract" || state === "show") happens();
+        else told.dataset.of = state === "story" ? showing.markNow().now ?? "" : "";
         if (state in says) tell(told, says[state]());
         const key = state === "story" ? `${at} ${laboratory.accounts.at(-1)?.clock} ${held() === null}` : null;
         if (key !== null && key !== shown) told.replaceChildren(...storyNodes(laboratory, texts, showing, exhibit));
@@ -79,19 +85,23 @@ function makeTold(laboratory, texts, showing, exhibit) {
     return { node: told, show: frame, frame };
 }
 
-/** Which buttons stand out in each state. */
-const PRIMARY = { attract: [1], story: [2], show: [2], end: [1], matches: [1, 2, 3] };
+/** Which button stands out in each state: one, or, where a choice is open, none. */
+const PRIMARY = { attract: [1], story: [2], show: [2], end: [1] };
+
+/** What a button says: the name of a text of the page, or a text in each language. */
+const labelIn = (label, { text, code }) => (typeof label === "string" ? text(label) : label[code]);
 
 /** The four buttons: each has its number, by which a key presses it. The second press of a double one is not meant for what the first one has led to in a game. */
-function makeButtons({ text, code }, exhibit) {
+export function makeButtons(texts, exhibit) {
+    const { code } = texts;
     const buttons = [1, 2, 3, 4].map((number) => button("", ({ detail }) => (detail > 1 && exhibit.state === "matches" ? undefined : exhibit.press(number)), { id: `kiosk-${number}` }));
     const show = () => {
         const { labels, state } = exhibit;
         for (const [place, control] of buttons.entries()) {
             const label = labels[place];
-            tell(control, label === null ? "" : text(label));
+            tell(control, label === null ? "" : labelIn(label, texts));
             control.classList.toggle("none", label === null);
-            control.classList.toggle("primary", PRIMARY[state]?.includes(place + 1) ?? false);
+            control.classList.toggle("primary", (exhibit.main === undefined ? PRIMARY[state]?.includes(place + 1) : exhibit.main === place + 1) ?? false);
             if (label === "kioskLanguage") control.lang = code === "de" ? "en" : "de";
             else control.removeAttribute("lang");
         }
@@ -112,9 +122,10 @@ export function makeKiosk(laboratory, texts, showing, exhibit, made, others, vie
     const cabinet = h("div", { class: "cabinet" }, h("p", { class: "plate" }, h("b", {}, "ROYAL McBEE LGP-30")), made.drum.node, colours(texts));
     const shown = { show: () => {
         document.body.dataset.state = exhibit.state;
+        document.body.toggleAttribute("data-opening", exhibit.isOpening);
         tell(hint, { attract: text("kioskTouch"), story: text("kioskOrder", { at: exhibit.at }) }[exhibit.state] ?? "");
     } };
-    return { nodes: [header, h("main", {}, cabinet, made.scope.node, made.heap.node, made.paper.node, ...Object.values(views).map(({ node }) => node)), h("footer", {}, buttons.node)], views: [told, buttons, shown, ...Object.values(made)] };
+    return { nodes: [header, h("main", {}, cabinet, made.scope.node, made.heap.node, h("div", { class: "flexowriter" }, made.paper.node, made.deck.node), ...Object.values(views).map(({ node }) => node)), h("footer", {}, buttons.node)], views: [told, buttons, shown, ...Object.values(made)] };
 }
 
 /** What a visitor's hand may do beside pressing: nothing of it is taken, so that the exhibit stays as it is. */

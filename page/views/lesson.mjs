@@ -5,14 +5,14 @@ import { button, h, part, tell } from "./dom.mjs";
 import { makeLineBox } from "./writing.mjs";
 
 /** An answer as it is compared: thousands may be set apart. */
-export const plain = (answer) => answer.trim().toLowerCase().replace(/\s+/g, " ").replace(/(\d)[.,](?=\d{3}$)/, "$1");
+export const plain = (answer) => answer.trim().toLowerCase().replace(/\s+/g, " ").replace(/(\d)[., ](?=\d{3}$)/, "$1");
 
 /** A text whose pieces in backticks are code. */
 const marked = (text) => text.split("`").map((piece, place) => (place % 2 === 0 ? piece : h("code", {}, piece)));
 const tellMarked = (node, text) => node.replaceChildren(...marked(text));
 
 /** The box for an answer. A wrong one is met by a hint, and the next wrong one by what is right as well. */
-function makeAnswer(laboratory, step, place, { text }, hint, done, drafts) {
+function makeAnswer(laboratory, step, place, { text }, hint, { done, undone }, drafts) {
     const input = drafts.held(h("input", { size: 8, "aria-label": text("answer", { number: place + 1 }), autocapitalize: "off", autocomplete: "off" }), `answer/${step.lesson}/${place}`);
     let wrong = 0;
     const check = () => {
@@ -20,7 +20,7 @@ function makeAnswer(laboratory, step, place, { text }, hint, done, drafts) {
         if (!step.isAsked(laboratory)) return tell(hint, text("lessonNotThere"));
         const answer = step.answer(laboratory);
         const isRight = plain(input.value) === answer;
-        if (!isRight) wrong += 1;
+        if (!isRight) { wrong += 1; undone(); }
         tellMarked(hint, isRight ? text("lessonRight") : wrong === 1 ? step.hint : `${step.hint} ${text("lessonWouldBe", { answer })}`);
         return isRight ? done() : undefined;
     };
@@ -28,12 +28,12 @@ function makeAnswer(laboratory, step, place, { text }, hint, done, drafts) {
 }
 
 /** What is done with in a step: a box for lines with the last reply, where lines are typed; and a box for an answer, or a button for the hint. */
-function makeControls(laboratory, step, place, texts, hint, done, drafts) {
+function makeControls(laboratory, step, place, texts, hint, ends, drafts) {
     const { text } = texts;
     const box = step.types ? makeLineBox(laboratory, texts, drafts, text("lineOfStep", { number: place + 1 }), `line/${step.lesson}/${place}`) : null;
     const reply = step.types ? h("pre", { class: "reply", role: "status" }) : null;
     box?.node.classList.add("types");
-    const control = step.answer === undefined ? button(text("hint"), () => tellMarked(hint, step.hint), { class: "for-hint" }) : makeAnswer(laboratory, step, place, texts, hint, done, drafts);
+    const control = step.answer === undefined ? button(text("hint"), () => tellMarked(hint, step.hint), { class: "for-hint" }) : makeAnswer(laboratory, step, place, texts, hint, ends, drafts);
     const show = () => {
         const last = laboratory.talk.findLast(({ line }) => !step.lines.includes(line));
         box?.show();
@@ -46,11 +46,11 @@ function makeControls(laboratory, step, place, texts, hint, done, drafts) {
 const isAstray = ({ panel, notice }) => panel.status === "halted stop" || notice?.code !== undefined;
 
 /** The step in its row: its number or a tick, what is to be done, the lines that are done for it, and its controls. */
-function makeStep(laboratory, step, place, texts, done, drafts) {
+function makeStep(laboratory, step, place, texts, ends, drafts) {
     const { text } = texts;
     const [mark, hint] = [h("span", { class: "mark", "aria-hidden": "true" }), h("span", { class: "hint", role: "status" })];
     const lines = step.lines.length === 0 ? null : h("div", { class: "lines-of-step" }, text("lessonLines"), h("pre", { tabindex: "0", role: "group", "aria-label": text("lessonLines") }, step.lines.join("\n")));
-    const controls = makeControls(laboratory, step, place, texts, hint, done, drafts);
+    const controls = makeControls(laboratory, step, place, texts, hint, ends, drafts);
     const state = h("span", { class: "unseen" });
     const node = h("li", { tabindex: "-1" }, mark, h("div", {}, state, h("span", { class: "what" }, ...marked(step.text)), lines, controls.node, hint));
     const show = (isDone, isNow) => {
@@ -62,6 +62,7 @@ function makeStep(laboratory, step, place, texts, done, drafts) {
         controls.node.hidden = !isNow;
         if (lines !== null) lines.hidden = !isNow;
         if (isNow) controls.show();
+        if (isDone && step.done !== undefined) tell(hint, "");
         if (isNow && !isDone && step.done !== undefined && hint.textContent === "" && isAstray(laboratory)) tellMarked(hint, step.hint);
     };
     return { ...step, node, show, isSetUp: step.opens !== undefined || step.lines.length > 0 };
@@ -94,12 +95,12 @@ function makeRail({ text }, goTo) {
     return { node, layOut, show };
 }
 
-/** The ways through a lesson: the rail, and Back and Next below the step in work, of which Next is highlighted when that is done. `leadTo` goes to a step, and `next` on. */
+/** The ways through a lesson: the rail, and below the step in work two buttons to the steps before and after it, of which the latter is highlighted when that is done. The machine's own buttons have other names. `leadTo` goes to a step, and `next` on. */
 function makeWays(texts, pupil, leadTo, next) {
     const { text } = texts;
     const rail = makeRail(texts, leadTo);
-    const backOne = button(text("captionBack"), () => leadTo(pupil.at - 1), { id: "step-back" });
-    const nextOne = button(text("captionNext"), next, { id: "step-next" });
+    const backOne = button(text("previousStep"), () => leadTo(pupil.at - 1), { id: "step-back" });
+    const nextOne = button(text("nextStep"), next, { id: "step-next" });
     const show = (count) => {
         rail.show(pupil);
         backOne.disabled = pupil.at === 0;
@@ -120,7 +121,7 @@ function makeSteps(laboratory, texts, open, pupil, drafts, told) {
     const ways = makeWays(texts, pupil, (place) => leadTo(place), () => (pupil.isDone.has(pupil.at) ? reach : leadTo)(pupil.at + 1));
     const layOut = (written, links) => {
         round += 1;
-        steps = (pupil.lesson?.steps ?? []).map((step, place) => makeStep(laboratory, { ...step, ...written[place], lesson: pupil.lesson.name }, place, texts, () => done(), drafts));
+        steps = (pupil.lesson?.steps ?? []).map((step, place) => makeStep(laboratory, { ...step, ...written[place], lesson: pupil.lesson.name }, place, texts, { done: () => done(), undone: () => undone(place) }, drafts));
         ways.layOut(steps.length, links);
         list.replaceChildren(...rowsOf(steps, texts, again), ended);
     };
@@ -134,6 +135,12 @@ function makeSteps(laboratory, texts, open, pupil, drafts, told) {
         told();
         show();
         if (isWithin) ways.focusNext();
+    };
+    /** The last answer counts: a wrong one takes back that the step is done. */
+    const undone = (place) => {
+        pupil.isDone.delete(place);
+        told();
+        show();
     };
     const setUp = (step) => (step?.isSetUp ? open(step) : undefined);
     const bring = async (unused, place) => {

@@ -1,6 +1,8 @@
-// The words around the counter: the next order lit, changed words in colour with an arrow from the order that wrote them.
-import { button, h, memoized, part, refill, s, tell, unseen } from "./dom.mjs";
+// The words around the counter: the order under way lit, and what comes after it marked; changed words in colour with an arrow from the order that wrote them.
+import { wholeAt } from "../kinds.mjs";
+import { button, h, memoized, oneStop, part, refill, s, tell, unseen } from "./dom.mjs";
 import { letterOf, rewrittenBy } from "./says.mjs";
+import { keepWhole } from "./scrolling.mjs";
 
 /** What is told of the order that changed a word, if there was one. */
 const toldOf = (writer, text) => (writer === null ? "" : text("changed", { order: writer.order, at: writer.at ?? "–", clock: writer.clock }));
@@ -15,18 +17,32 @@ function commentOf({ address, origin }, digits, comments) {
 }
 
 /** What a row shows. The word that an order stores that is played stands there as it was. */
-function shownIn(word, { labels, panel, comments }, { writer, stored, isNew }) {
+function shownIn(word, { labels, comments, kinds }, { writer, stored, isNew, code }) {
     const isHeld = word.address === stored?.address;
     const { digits, order } = isHeld ? stored.before : word;
-    return { comment: commentOf(word, digits, comments), address: word.address, digits, order: order ?? `word ${digits}`, writer: isHeld ? null : writer, isNext: word.address === panel.counter, isNew, labels: labels.get(word.address) ?? [] };
+    return { comment: commentOf(word, digits, comments), address: word.address, digits, order: wholeAt(kinds, word.address, digits, code) ?? order ?? `word ${digits}`, writer: isHeld ? null : writer, isNew, labels: labels.get(word.address) ?? [] };
 }
 
-function row({ address, digits, order, writer, isNext, isNew, labels, comment }, { text, table }, ask) {
+function row({ address, digits, order, writer, isNew, labels, comment }, { text, table }, ask) {
     const meaning = table.orders[letterOf(order)] ?? "";
-    return h("tr", { class: `${isNext ? "next" : ""} ${writer === null ? "" : "changed"} ${isNew ? "new" : ""}`, "data-address": address, "aria-current": isNext ? "true" : null },
+    return h("tr", { class: `${writer === null ? "" : "changed"} ${isNew ? "new" : ""}`, "data-address": address },
         h("td", {}, button(address, () => ask(address), { class: "plain", title: `${address}: ${text("whyHint")}`, "data-name": address })),
         h("td", { class: "label" }, labels.join(" ")), h("td", {}, h("code", {}, digits)),
-        h("td", { title: meaning }, h("code", {}, order), unseen(meaning === "" ? "" : ` ${meaning}`)), h("td", { class: "told", title: [comment, toldOf(writer, text)].filter(Boolean).join("; ") }, h("span", { class: "comment" }, comment), " ", toldOf(writer, text)));
+        h("td", { title: meaning }, h("code", {}, order), unseen(meaning === "" ? "" : ` ${meaning}`)), h("td", { class: "told", title: [comment, toldOf(writer, text)].filter(Boolean).join("; ") }, h("span", { class: "comment" }, comment), " ", toldOf(writer, text)), h("td", { class: "chip" }, h("span")));
+}
+
+/** Marks the rows of the order under way, in the colour of its phase, and of what comes after it. */
+function markRows(body, { now, phase, coming }, { chips }) {
+    for (const row of body.children) {
+        const { address } = row.dataset;
+        const [isNow, isNext] = [address === now, address === coming];
+        row.classList.toggle("now", isNow);
+        row.classList.toggle("next", isNext && !isNow);
+        row.dataset.phase = isNow ? phase : "";
+        tell(row.querySelector(".chip span"), isNow ? chips[phase] : isNext ? chips.next : "");
+        if (address === (now ?? coming)) row.setAttribute("aria-current", "step");
+        else row.removeAttribute("aria-current");
+    }
 }
 
 /** What a rule does, as `break 0100` or `watch 0009 loop` names it. */
@@ -48,14 +64,17 @@ function arrowEnds(body, writer) {
 function scrollTo(list, selectors) {
     const rows = selectors.map((selector) => list.querySelector(selector)).filter((it) => it !== null);
     const head = list.querySelector("thead").offsetHeight;
-    const room = list.clientHeight - head;
+    // the edge that hides a cut row is not counted: it goes where the list is scrolled
+    const room = Math.floor(list.getBoundingClientRect().height) - head;
     const endsOf = (some) => [Math.min(...some.map(({ offsetTop }) => offsetTop - head)), Math.max(...some.map(({ offsetTop, offsetHeight }) => offsetTop - head + offsetHeight))];
     while (rows.length > 1 && endsOf(rows)[1] - endsOf(rows)[0] > room) rows.pop();
     if (rows.length === 0) return;
     const [first, last] = endsOf(rows);
     if (first >= list.scrollTop && last <= list.scrollTop + room) return;
     const wanted = (first + last - room) / 2;
-    const tops = [...list.querySelectorAll("tbody tr")].map(({ offsetTop }) => offsetTop - head).filter((top) => top <= first && last <= top + room);
+    // at its very end a list may begin within a row
+    const end = list.scrollHeight - head - room;
+    const tops = [...list.querySelectorAll("tbody tr")].map(({ offsetTop }) => offsetTop - head).filter((top) => top <= first && last <= top + room && top <= end);
     list.scrollTop = tops.reduce((best, top) => (Math.abs(top - wanted) < Math.abs(best - wanted) ? top : best), first);
 }
 
@@ -65,18 +84,19 @@ function arrow({ start, end, height }) {
 }
 
 /** The part of the page that shows words of the drum. */
-export function makeListing(laboratory, texts, { held, isFast, hasCosts }, drafts) {
+export function makeListing(laboratory, texts, { held, isFast, hasCosts, markNow }, drafts) {
     const { text } = texts;
     const rewritten = h("p", { class: "rewritten", role: "status" });
     const body = h("tbody");
-    const heads = ["address", "label", "digits", "order", "change"].map((name) => h("th", { scope: "col" }, ["label", "change"].includes(name) ? unseen(text(name)) : text(name)));
+    const heads = ["address", "label", "digits", "order", "change", "under"].map((name) => h("th", { scope: "col" }, ["label", "change", "under"].includes(name) ? unseen(text(name)) : text(name)));
     const table = h("table", { class: "words-table" }, h("thead", {}, h("tr", {}, ...heads)), body);
     const arrows = h("div", { class: "arrows" });
     const list = h("div", { class: "scroll with-arrows" }, arrows, table);
+    const [stops, whole] = [oneStop(body, ".now, .next"), keepWhole(list, body)];
     const answer = h("p", { class: "why", role: "status" });
     let [askedOf, wanted, shownAt] = [null, [], null];
-    const scroll = () => requestAnimationFrame(() => scrollTo(list, wanted));
-    new ResizeObserver(scroll).observe(list);
+    const scroll = () => requestAnimationFrame(() => { scrollTo(list, wanted); whole(); });
+    new ResizeObserver(scroll).observe(list, { box: "border-box" });
     const ask = async (address) => {
         if (hasCosts()) laboratory.askCosts(address);
         const lines = await laboratory.why(address);
@@ -107,18 +127,21 @@ export function makeListing(laboratory, texts, { held, isFast, hasCosts }, draft
         const events = told.map(rewrittenBy);
         const newest = held() === null ? events.at(-1)?.m : undefined;
         refill(body, ...laboratory.words.map((word) => {
-            return rowOf(word.address, shownIn(word, laboratory, { writer: laboratory.writerOf(word.address), stored, isNew: word.address === newest }));
+            return rowOf(word.address, shownIn(word, laboratory, { writer: laboratory.writerOf(word.address), stored, isNew: word.address === newest, code: texts.code }));
         }));
         const event = events.findLast((it) => it !== null);
         tell(rewritten, event === undefined ? "" : text("rewritten", event));
         const last = held() === null ? told.at(-1) : undefined;
-        // where there is little room the next order, the last one and what it has stored are seen alone
-        for (const row of body.children) row.classList.toggle("wanted", [laboratory.panel.counter, last?.at, last?.stored?.address].includes(row.dataset.address));
         const ends = held() === null ? arrowEnds(body, last) : null;
         refill(arrows, ...(ends === null ? [] : [arrowOf("arrow", ends)]));
         const rowAt = (address) => `[data-address="${address}"]`;
         const asked = shownAt?.counter === laboratory.panel.counter ? [shownAt.address] : [];
-        wanted = [...[...asked, ...laboratory.lookedAt].map(rowAt), ".next", ...(ends === null ? [] : [told.at(-1).at, told.at(-1).stored.address].map(rowAt))];
+        markRows(body, markNow(), texts.table);
+        // where there is little room the order under way, what comes after it, and what it has stored are seen alone
+        const seen = [markNow().now, laboratory.panel.counter, last?.stored?.address];
+        for (const row of body.children) row.classList.toggle("wanted", seen.includes(row.dataset.address));
+        stops();
+        wanted = [...[...asked, ...laboratory.lookedAt].map(rowAt), ".now", ".next", ...(ends === null ? [] : [rowAt(last.stored.address)])];
         scroll();
     };
     const show = () => {
@@ -128,5 +151,6 @@ export function makeListing(laboratory, texts, { held, isFast, hasCosts }, draft
             return h("li", {}, `${number}: ${ruleText(rule, texts)} `, button("×", () => takeOut(number), { "aria-label": text("dropRule", { number }), "data-name": number }));
         }));
     };
-    return { node: part("listing", text("words"), rewritten, list, answer, form, rules), show };
+    const frame = () => markRows(body, markNow(), texts.table);
+    return { node: part("listing", text("words"), rewritten, list, answer, form, rules), show, frame };
 }

@@ -1,5 +1,6 @@
 // The map of the drum: its 64 tracks as rows and its 64 sectors as columns, as they pass the head or by their numbers. A word is as the last told orders left it: performed, read, written, or there.
-import { SECTORS, addressOf, numberOf, positionOf, sectorAt } from "../addresses.mjs";
+import { SECTORS, addressOf, numberOf } from "../addresses.mjs";
+import { positionOf, sectorAt } from "../machine.mjs";
 import { button, h, part, tell } from "./dom.mjs";
 
 /** The room for the numbers of tracks and sectors; the height of a track with words, and of one without; the last orders that are drawn full. */

@@ -12,12 +12,18 @@ export function wayText({ way: { kind, mode } }, { text, table }, isKiosk) {
     return text({ go: "wayGo", start: "wayStart", keys: "wayKeys", mode: "wayMode" }[kind], { mode: table.modes[mode] ?? "" });
 }
 
+/** The name of the sentence for a source that was run with its words elsewhere. The loader may end elsewhere as well, and the wait for the first order is then another one. */
+function movedName({ took, foretold, waited: { now, before } }) {
+    if (took === foretold) return "movedAsForetold";
+    return took - now === foretold - before ? "movedButFirst" : "movedOtherwise";
+}
+
 /** The text of a notice. */
 function noticeText(notice, laboratory, texts, isKiosk) {
     const { kind, number, detail, line, reason, count, most } = notice;
     const { text, table, code } = texts;
     const way = () => wayText(laboratory, texts, isKiosk);
-    const plain = ["before", "stopped", "noMemory", "sourceIsOpen", "sourceTooLong", "notLoaded", "scriptDone", "noneBehind", "beforeKept", "notKept"];
+    const plain = ["before", "stopped", "noMemory", "sourceIsOpen", "sourceTooLong", "notLoaded", "noSourceToRun", "scriptDone", "noneBehind", "beforeKept", "notKept", "notWaiting"];
     if (plain.includes(kind)) return text(kind);
     if (kind === "usedUp") return text(isKiosk ? "kioskUsedUp" : "usedUp");
     if (kind === "atRest") return `${text("atRest")} ${way()}`;
@@ -27,13 +33,17 @@ function noticeText(notice, laboratory, texts, isKiosk) {
     if (kind === "tooMany") return text("tooMany", { line: line.trim(), most: counted(most, code) });
     if (kind === "broken") return text("broken", { detail });
     if (["fileTooLong", "fileNoText", "fileNoScript"].includes(kind)) return text(kind, { detail });
+    if (kind === "fileOfSimh") return text(kind, { detail, line });
     if (kind === "noExample") return text("wrongAddress", { name: detail });
     if (kind === "noLesson") return text("wrongLesson", { name: detail, lessons: LESSONS.map(({ name }) => name).join(", ") });
     if (kind === "noTask") return text("wrongTask", { name: detail, tasks: notice.tasks.join(", ") });
     if (kind === "notMoved") return text("notMoved", { why: text(`notMoved_${notice.wrong}`, notice) });
-    if (kind === "moved") return text(notice.took === notice.foretold ? "movedAsForetold" : "movedOtherwise", { words: notice.words.map((it) => text("wordMoved", it)).join(" "), took: counted(notice.took, code), foretold: counted(notice.foretold, code) });
+    if (kind === "moved") return text(movedName(notice), { words: notice.words.map((it) => text("wordMoved", it)).join(" "), took: counted(notice.took, code), foretold: counted(notice.foretold, code) });
+    if (kind === "wrongSent") return table.wrongSent[notice.wrong];
+    if (kind === "sentLong") return text("sentLong", { most: counted(most, code) });
     if (kind === "noGame") return text("wrongGame", { name: detail });
     if (kind === "noStory") return text("wrongStory", { name: detail });
+    if (kind === "wrongExhibit") return text("wrongExhibit", { detail });
     if (kind === "noKioskExample") return text("wrongKiosk", { name: detail, shown: notice.shown });
     return `${line}\n${text("refused", { kind, text: `${table.refusals[kind] ?? ""} ${reason ?? ""}` })}`;
 }
@@ -52,7 +62,7 @@ function buttonsOf({ kind, number, lines, work }, laboratory, { text }, isKiosk,
     if (kind === "rule") return [goOn, passing(text("takeOut", { number }), () => laboratory.command(`drop ${number}`), run)];
     const back = work === undefined ? [] : [passing(text("goBack"), () => actions.goBack(work), run)];
     if (["broken", "before"].includes(kind)) return [actions.linkTo(lines), ...back];
-    if (kind === "beforeKept") return back;
+    if (["beforeKept", "sentLong"].includes(kind)) return back;
     if (kind !== "usedUp") return [];
     if (isKiosk) return [passing(text("kioskToStart"), actions.anew, run)];
     return [button(text("save"), actions.save), passing(text("new"), actions.anew, run)];
@@ -97,7 +107,7 @@ function makeLost(laboratory, { text }, linkTo) {
         shown = lost;
         place.hidden = lost.length === 0;
         if (place.hidden) return place.replaceChildren();
-        const away = passing(text("putAway"), () => laboratory.putAway(), () => document.querySelector("#save, #kiosk-1"));
+        const away = passing(text("putAway"), () => laboratory.putAway(), () => document.querySelector(".menu, #kiosk-1"));
         return place.replaceChildren(text("lost"), ...lost.flatMap((lines) => [" ", linkTo(lines)]), ...waysOut(away));
     };
 }

@@ -1,6 +1,6 @@
 // The panel: registers as bits with their readings, status, mode and clock.
-import { bitsOf, fractionOf, wholeOf } from "../module/replies.mjs";
-import { counted } from "../words.mjs";
+import { bitsOf, fractionOf, wholeOf } from "../../libraries/javascript/replies.mjs";
+import { counted, decimal } from "../words.mjs";
 import { h, memoized, part, refill } from "./dom.mjs";
 
 /** The bits of a word as lamps. The order and the address stand out. */
@@ -19,7 +19,7 @@ const line = (text) => ({ name, value, digits, reading }) => [h("dt", {}, text(n
 /** The part of the page with the registers. */
 export function makePanel(laboratory, { text, table, code }) {
     const body = h("dl", { class: "registers" });
-    const numbers = (digits) => `${text("asWhole")} ${counted(wholeOf(digits), code)}, ${text("asFraction")} ${fractionOf(digits).toFixed(9)}`;
+    const numbers = (digits) => `${text("asWhole")} ${counted(wholeOf(digits), code)}, ${text("asFraction")} ${decimal(fractionOf(digits), 9, code)}`;
     const lineOf = memoized(line(text));
     const show = () => {
         const { panel: { counter, accumulator, register, status, mode, clock }, orderInRegister: order } = laboratory;

@@ -19,9 +19,12 @@ function roomFor(angle, one, other, distanceOf) {
  * an angle. */
 export function apart(pins, distanceOf) {
     const set = pins.map((pin) => ({ ...pin, own: turned(pin.angle), angle: turned(pin.angle) })).sort((one, other) => one.own - other.own);
+    /** Sets a pin beside the head. Whether it lay upon it. */
     const fromHead = (pin) => {
         const least = (Math.asin((HEAD + pin.width / 2) / (distanceOf(0, pin) + 20)) * 180) / Math.PI;
-        if (Math.abs(pin.angle) < least) pin.angle = pin.own < 0 ? -least : least;
+        const isUpon = Math.abs(pin.angle) < least - 0.01;
+        if (isUpon) pin.angle = pin.own < 0 ? -least : least;
+        return isUpon;
     };
     let isMoved = true;
     for (let round = 0; isMoved && round < ROUNDS; round += 1) {
@@ -35,7 +38,8 @@ export function apart(pins, distanceOf) {
             pin.angle -= missing / 2;
             next.angle += missing / 2;
         }
-        set.forEach(fromHead);
+        // a pin that was set beside the head may now lie upon its neighbour: that is looked at again
+        for (const pin of set) isMoved = fromHead(pin) || isMoved;
     }
     return new Map(set.map((pin) => [pin.name, turned(pin.angle)]));
 }

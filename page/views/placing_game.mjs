@@ -1,9 +1,10 @@
 // Make it faster: a game of two minutes with the drum. A loop goes round, and its words are carried to sectors where the machine waits less. What a placing costs are sums of the monitor's
 // numbers; the line on the drum and the bars are drawn only where their sum is that.
-import { SECTORS, inTwoDigits, positionOf, sectorAt, sectorOf } from "../addresses.mjs";
+import { SECTORS, inTwoDigits, sectorOf } from "../addresses.mjs";
+import { positionOf, sectorAt } from "../machine.mjs";
 import { timesOf } from "../placing.mjs";
 import { PLACING_GAMES, PlacingGame } from "../placing_game.mjs";
-import { counted } from "../words.mjs";
+import { counted, turnsOf } from "../words.mjs";
 import { button, guarded, h, refill, s, showLive, tell } from "./dom.mjs";
 import { PEN, makeKey, makePicture, passed } from "./drum.mjs";
 import { makeGrips } from "./hand.mjs";
@@ -11,9 +12,6 @@ import { makeBar } from "./story.mjs";
 
 /** How many word times of a round that is watched pass in a second; without motion, how long each order is seen; and how far the line of a round reaches inward. */
 const [SPEED, PICTURE_MILLISECONDS, LINE] = [64, 1200, 100];
-
-/** A number of turns of the drum, as words. */
-const turnsOf = (times, { text, code }) => text(times === SECTORS ? "oneTurn" : "manyTurns", { n: counted(Math.round((10 * times) / SECTORS) / 10, code) });
 
 /** A number of word times saved, in words. */
 export const savedText = (saved, texts) => (saved === 0 ? texts.text("asAtFirst") : texts.text(saved > 0 ? "turnsLess" : "turnsMore", { turns: turnsOf(Math.abs(saved), texts) }));
@@ -28,7 +26,22 @@ function leadOf(game, texts) {
     if (game.isWon) return text(placing.words.length === 1 ? "fasterWonOne" : "fasterWon", { ...values, turns: turnsOf(placing.took - placing.times, texts), count: placing.words.length });
     if (game.isWhy) return text("fasterWhy", values);
     if (placing.moved.length === 0) return text("fasterBegin", values);
-    return text(saved < 0 ? "fasterWorse" : saved === 0 ? "fasterBad" : placing.isBest(picked) ? "fasterGood" : "fasterSome", values);
+    if (saved > 0) return text(placing.isBest(picked) ? "fasterGood" : "fasterSome", values);
+    const miss = game.missOf(picked);
+    return `${text(saved < 0 ? "fasterWorse" : "fasterBad", values)}${miss === null ? "" : ` ${missText(miss, texts)}`}`;
+}
+
+/** By how much a word misses an order. */
+const missText = (miss, { text }) => text(miss.isEarly ? "missEarly" : "missLate", { ...miss, places: text(miss.places === 1 ? "onePlace" : "manyPlaces", { n: miss.places }) });
+
+/** All that the words at the top may say of a program, with its longest name and numbers: they take as much room as the longest of these, in any font, so nothing moves when they change. */
+function longestLeads(game, texts) {
+    const { text, code } = texts;
+    const { took, words: { length: count } } = game.placing;
+    const [word] = game.program.words.map((address) => game.nameOf(address)).sort((one, other) => other.length - one.length);
+    const values = { word, count, turns: turnsOf(took, texts), from: counted(took, code), to: counted(took, code), round: turnsOf(timesOf(game.round.map(({ account }) => account)), texts) };
+    const misses = [true, false].map((isEarly) => missText({ isEarly, at: "0000", letter: "m", places: SECTORS }, texts));
+    return [...["fasterBegin", "fasterGood", "fasterSome", "fasterWhy", "fasterShown", count === 1 ? "fasterWonOne" : "fasterWon"].map((name) => text(name, values)), ...misses.map((miss) => `${text("fasterWorse", values)} ${miss}`)];
 }
 
 /** The number that counts, and how far it is from the least. */
@@ -41,6 +54,7 @@ function makeScore(texts) {
         const share = (number) => `${Math.max(0, Math.min(100, (100 * (number - low)) / (took - low))).toFixed(1)}%`;
         tell(big, counted(times, code));
         tell(less, times === took ? "" : savedText(took - times, texts));
+        less.classList.toggle("loss", times > took);
         tell(unit, text("wholeRun", { turns: turnsOf(times, texts) }));
         fill.style.width = share(times);
         flag.style.left = share(least);
@@ -71,6 +85,7 @@ function makeWords(game, texts, focus) {
             tell(users, texts.text("usedBy", { orders: usersOf(address) }));
             tell(where, texts.text("nowIn", { sector: inTwoDigits(placing.sectorOf(address)) }));
             const gained = placing.saved(address);
+            saved.classList.toggle("loss", gained < 0);
             tell(saved, gained === 0 ? "–" : `${savedText(gained, texts)}${placing.isBest(address) ? " ✓" : ""}`);
         }
     };
@@ -87,7 +102,7 @@ function makeRound(game, { text }) {
         bar.show(Infinity);
         const name = word === null ? account.order : `${account.order.slice(0, account.order.indexOf(" "))} ${game.nameOf(word)}`;
         return h("tr", { class: word === game.picked ? "uses" : null, "data-at": account.at }, h("th", { scope: "row" }, account.at), h("td", {}, name),
-            h("td", {}, h("div", { class: "account-bar", style: `--times: ${account.sum}; --most: ${most}`, "aria-hidden": "true" }, ...bar.nodes)), h("td", { class: "number" }, String(account.sum)), h("td", { class: "number" }, signed(account.sum - before)));
+            h("td", {}, h("div", { class: "account-bar", style: `--times: ${account.sum}; --most: ${most}`, "aria-hidden": "true" }, ...bar.nodes)), h("td", { class: "number" }, String(account.sum)), h("td", { class: account.sum > before ? "number loss" : "number" }, signed(account.sum - before)));
     };
     /** How many rows a narrow window shows of a word: those of its orders, and of what comes after each. */
     const rowsOf = (address) => game.round.filter((unused, place) => [place, place - 1].some((at) => game.round[at]?.account.word === address)).length;
@@ -193,7 +208,8 @@ function play(game, isStill, frame, ended) {
 
 /** The buttons below. Where the time is over the last one shows the best placing; where that is reached or shown, it leads to another program. */
 function makeFoot(game, { text }, timer, actions) {
-    const [why, back, watch] = ["why", "back", "watch"].map((name) => guarded("", { id: `faster-${name}` }, actions[name]));
+    // they have their names before there is something to do
+    const [why, back, watch] = [["why", "showWhy"], ["back", "asItWas"], ["watch", "watchRound"]].map(([name, said]) => guarded(text(said), { id: `faster-${name}`, "aria-disabled": "true" }, actions[name]));
     const [best, another] = [button(text("showBest"), () => { actions.showBest(); back.focus(); }, { id: "faster-best" }), button(text("anotherProgram"), actions.another, { id: "faster-another", class: "primary" })];
     const last = h("div", { class: "last" });
     const show = () => {
@@ -203,6 +219,7 @@ function makeFoot(game, { text }, timer, actions) {
         tell(back, text(isShown ? "myPlacing" : "asItWas"));
         showLive(back, isShown || placing.moved.length > 0);
         tell(watch, text(watched === null ? "watchRound" : "halt"));
+        for (const control of [why, watch]) showLive(control, true);
         refill(last, isShown || isWon ? another : timer.isOver() ? best : timer.node);
     };
     return { node: h("div", { class: "foot" }, why, back, watch, last), show };
@@ -217,7 +234,8 @@ export class PlacingGameView {
     #round = 0;
     #endWatching = () => {};
     #elsewhere = h("div", { class: "line" });
-    #lead = h("p", { class: "caption lead" });
+    #lead = h("p", { class: "lead" });
+    #leads = h("div", { class: "leads" }, this.#lead);
     #said = h("p", { class: "unseen", role: "status" });
     #timer;
     #drum;
@@ -238,7 +256,7 @@ export class PlacingGameView {
         this.#views = [{ show: () => score.show(game.placing) }, this.#words, this.#orders, this.#drum, foot];
         const cabinet = h("div", { class: "cabinet" }, h("div", { class: "stand" }, this.#drum.node), makeKey((phase) => texts.text(`colour_${phase}`)));
         this.node = h("section", { class: "faster", "aria-label": texts.text("faster"), "aria-busy": "true" }, cabinet,
-            h("div", { class: "game" }, this.#elsewhere, this.#lead, this.#said, score.node, this.#words.node, this.#orders.node, foot.node));
+            h("div", { class: "game" }, this.#elsewhere, this.#leads, this.#said, score.node, this.#words.node, this.#orders.node, foot.node));
     }
 
     /** Begins a game with the program that was played last in it, unless it is there already. */
@@ -346,6 +364,7 @@ export class PlacingGameView {
         this.#game.open(program, told);
         this.#game.kept = this.#settings.kept.of()?.[program.name] ?? this.#game.kept;
         this.#timer.reset();
+        this.#leads.replaceChildren(this.#lead, ...longestLeads(this.#game, this.#texts).map((words) => h("p", { class: "room", "aria-hidden": "true" }, words)));
         for (const view of [this.#drum, this.#words]) view.put();
         this.#show();
         this.node.setAttribute("aria-busy", "false");

@@ -1,10 +1,9 @@
 // What an order does, in one sentence for a child, from its account. Nothing here knows of a page.
-import { addressIn, partsOfOrder } from "../addresses.mjs";
+import { SECTORS, addressIn, bareOrder, inTwoDigits, partsOfOrder } from "../addresses.mjs";
+import { isNegative, sectorAt } from "../machine.mjs";
 
 /** The letter of an order as it is written, or null. */
 export const letterOf = (order) => partsOfOrder(order).letter;
-
-const isNegative = (digits) => "89fgjkqw".includes(digits[0]);
 
 /** What a test has found. Only one with a sign asks for the switch; there it has to be known where the machine went on. */
 function testOf({ before, order, next }) {
@@ -37,9 +36,27 @@ export function saysOf(account) {
     return { kind, waits: waitOf(account, kind), values: { m: addressIn(order) ?? "–", g: printed?.sign ?? "", code: printed?.code ?? "–", n: passed, f: find, s: seek } };
 }
 
+/** Which sector the head reads next at a clock. */
+const nextAt = (clock) => inTwoDigits(sectorAt(Number(clock % BigInt(SECTORS))));
+
+/** Why an order has waited, for itself and then for its word: the names of the sentences, and what stands in their places. */
+export function whyOf({ at, clock, find, take, seek, word }) {
+    const order = find === 0 || at === null ? { name: "whyRegister", values: {} } : { name: "whyOrder", values: { m: at, next: nextAt(clock), f: find } };
+    return word === null ? [order, { name: "whyNoWord", values: {} }] : [order, { name: "whyWord", values: { m: word, next: nextAt(clock + BigInt(find + take)), s: seek } }];
+}
+
 /** What an order has rewritten: another one, to which it has given another address. Null where it has not. */
 export function rewrittenBy({ order, at, stored }) {
     if (stored === null || !["y", "r"].includes(letterOf(order)) || stored.before.digits === stored.after.digits) return null;
     const named = ({ order: name, digits }) => name ?? digits;
     return { o: order, at: at ?? "–", m: stored.address, b: named(stored.before), a: named(stored.after) };
+}
+
+/** What is told of the order under way while a program plays by itself, by the name of its text and what stands in that: that it prints a sign, or has rewritten another order, as long as that can be read; or null. */
+export function happeningIn({ now, order, phase }, account, isTelling) {
+    if (account === null || phase === null) return null;
+    const event = phase === "done" && isTelling ? rewrittenBy(account) : null;
+    if (event !== null) return { name: "kiosk_write", values: { b: bareOrder(event.b), a: bareOrder(event.a) } };
+    const sign = account.printed?.sign ?? null;
+    return phase === "act" && sign !== null ? { name: "kiosk_type", values: { g: sign } } : null;
 }

@@ -1,7 +1,9 @@
 // The oscilloscope: counter, instruction register and accumulator as traces over one mask of 32 columns, the most significant bit at the left. What the
 // registers hold comes from replies; how a trace rises, rounds and glows on is the page's own picture of the machine.
 import { numberOf } from "../addresses.mjs";
-import { bitsOf, wholeOf } from "../module/replies.mjs";
+import { accumulatorKinds, valueOf } from "../kinds.mjs";
+import { FIELDS } from "../machine.mjs";
+import { bitsOf, wholeOf } from "../../libraries/javascript/replies.mjs";
 import { h, tell } from "./dom.mjs";
 
 const COLUMNS = 32;
@@ -10,7 +12,6 @@ const PIECES = 10;
 const STROKES = [[9, 0.1], [4.5, 0.25], [1.7, 1]];
 /** How an old trace fades, for how long it is seen that bits have changed, and the least time between two pictures where orders pass too fast to be read. */
 const GLOW = { fades: 420, ends: 1500, apart: 125 };
-const FIELDS = { order: [12, 16], track: [18, 24], sector: [24, 30] };
 const still = matchMedia("(prefers-reduced-motion: reduce)");
 
 /** The twelve bits of an address, which lie above the address of an order. */
@@ -119,8 +120,15 @@ export function makeScope(laboratory, texts, { playing, isFast }) {
     const rows = Object.keys(TRACES).map((name) => h("div", { class: "trace" }, h("span", { class: "trace-name" }, text(`${name}Trace`)), h("span", { class: "trace-value" }, values[name].digits, values[name].reading), traces[name].node));
     const node = h("div", { class: "scope", role: "img" }, h("div", { class: "trace" }, brackets(texts)), ...rows);
     const readings = ({ register, accumulator }) => ({
-        counter: "", register: laboratory.accounts.findLast((account) => account.register === register)?.order ?? "", accumulator: accumulator === null ? "" : `= ${wholeOf(accumulator)}`,
+        counter: "", register: laboratory.accounts.findLast((account) => account.register === register)?.order ?? "", accumulator: accumulator === null ? "" : valueNow(accumulator) ?? `= ${wholeOf(accumulator)}`,
     });
+    /** What the accumulator holds as what was brought there, as far as that was told. */
+    const valueNow = (digits) => {
+        const [account, held] = [laboratory.accounts.at(-1), accumulatorKinds(laboratory.accounts, laboratory.kinds).at(-1)];
+        const at = playing();
+        const isDone = at === null || at.account !== account || at.done;
+        return isFast() || laboratory.lastTold === null ? null : valueOf(digits, isDone ? held.after : held.before, texts);
+    };
     const frame = () => {
         const held = (isFast() ? null : playing()) ?? laboratory.panel;
         const glows = !isFast() && !still.matches;

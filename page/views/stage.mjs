@@ -15,24 +15,25 @@ let place = () => {};
 
 /** What is seen at which door. */
 function markDoors(made) {
-    for (const { node } of [made.lesson, made.tasks, made.drum, made.console, made.time, made.story, made.paper]) node.querySelector("h2").classList.add("unseen");
+    for (const { node } of [made.lesson, made.tasks, made.drum, made.console, made.time, made.story, made.paper, made.keyboard]) node.querySelector("h2").classList.add("unseen");
     const stand = "learn work";
     behind(stand, made.console.node);
     for (const node of [made.story.node.querySelector(".telling-order"), made.console.node.querySelector(".second-row"), made.source.run, made.operated, ...made.listing.node.querySelectorAll("form button:not(:first-of-type), .rules")]) behind("work", node);
     for (const node of [made.listing.node.querySelector("form"), made.costs.node]) behind(stand, node);
     for (const node of [made.tales.node, made.tales.node.lastElementChild]) behind("look", node);
     behind("hall", made.hall.node);
+    made.paper.node.append(behind("work", made.sheet.control));
 }
 
 /** What the boxes contain outside of Work: in the hall the drum and the doors; in Look what is told of the drum, with Back and Next at its end; in Learn the guide, the machine, what is told of it, and the time line. */
 const ELSEWHERE = {
     hall: (made, { cabinet, main }) => [[cabinet, [made.drum.node, made.hall.node]], [main, [cabinet]]],
     look: (made, { cabinet, tells, told, typewriter, foot, main }) => [
-        [cabinet, [made.drum.node, tells]], [told, [made.tales.node, made.story.node, made.listing.node, made.scope.node, typewriter, foot]], [main, [cabinet, told]],
+        [typewriter, [made.paper.node, made.keyboard.node]], [cabinet, [made.drum.node, tells]], [told, [made.tales.node, made.story.node, made.listing.node, made.scope.node, typewriter, foot]], [main, [cabinet, told]],
     ],
     learn: (made, { guide, cabinet, told, pace, typewriter, main }) => [
-        [guide, [made.lesson.node, made.tasks.node, made.costs.node]], [cabinet, [made.plate.node, made.console.node, made.drum.node]],
-        [told, [made.scope.node, made.story.node, made.listing.node, typewriter]], [pace, [made.time.node, made.pace.node]], [main, NARROW.matches ? [cabinet, guide, pace, told] : [guide, cabinet, told, pace]],
+        [typewriter, [made.paper.node, made.keyboard.node]], [guide, [made.lesson.node, made.tasks.node, made.costs.node]], [cabinet, [made.plate.node, made.console.node, made.drum.node]],
+        [told, [made.scope.node, made.story.node, made.listing.node, typewriter]], [pace, [made.time.node, made.pace.node]], [main, NARROW.matches ? [cabinet, guide, pace, told] : [guide, cabinet, told, pace, made.projector.node]],
     ],
 };
 
@@ -41,7 +42,7 @@ function entriesOf(made, boxes, { text }) {
     const entry = (name, ...nodes) => ({ name, title: text(`tab_${name}`), nodes });
     return {
         told: [entry("orders", made.story.node, made.accounts.node), entry("time", made.profile.node, made.turns.node), entry("lines", made.lines.node), entry("script", made.script.node, made.explanation.node, made.noScript), entry("registers", made.panel.node)],
-        memory: [entry("program", made.listing.node), ...(WIDEST.matches ? [] : [entry("map", made.map.node)]), entry("costs", made.costs.node)], flexo: [entry("tape", made.tape.node), entry("keyboard", made.keyboard.node)], paper: [entry("paper", boxes.typewriter)],
+        memory: [entry("program", made.listing.node), ...(WIDEST.matches ? [] : [entry("map", made.map.node)]), entry("costs", made.costs.node)], flexo: [entry("keyboard", made.keyboard.node), entry("tape", made.tape.node)], paper: [entry("paper", boxes.typewriter)],
         phone: [entry("write", made.source.node), entry("machine", boxes.cabinet, boxes.toldTabs.node), entry("memory", boxes.memoryTabs.node), entry("typewriter", boxes.typewriter)],
     };
 }
@@ -58,9 +59,9 @@ function workbench(made, boxes, texts) {
     const thirds = widest ? [[right, [memoryTabs.node, made.map.node]], [last, [typewriter]]] : [[right, [memoryTabs.node, typewriter]]];
     const columns = [[left, [made.source.node]], [middle, [cabinet, toldTabs.node]], ...(wide ? thirds : [])];
     return [
-        [body, widest ? [made.tape.node, made.keyboard.node] : [keysTabs.node]],
+        [typewriter, [made.paper.node, body, made.operated]], [body, widest ? [made.tape.node, made.keyboard.node] : [keysTabs.node]],
         [desk, [made.plate.node, made.scope.node, made.console.node]], [cabinet, [made.drum.node, desk]], [pace, [made.time.node, made.pace.node]], ...(narrow ? [] : columns),
-        [main, [...(narrow ? [phoneTabs.node] : columns.map(([column]) => column)), pace, made.source.card.node]],
+        [main, [...(narrow ? [phoneTabs.node] : columns.map(([column]) => column)), pace, made.sheet.node, made.source.card.node]],
     ];
 }
 

@@ -12,11 +12,17 @@ export const TALES = [
 /** Where a viewer is: the story, or null, its caption, and after how many orders it begins. It outlasts a change of the language. */
 export const noTale = () => ({ tale: null, at: 0, first: 0 });
 
-/** The part of the page with the stories. `open` opens an example and sets it going, and `told` is called when another caption is reached. One story is played at a time: the last that was asked for. */
-export function makeTales(laboratory, { text, table }, drive, { open, viewer, told, others }) {
+/** The part of the page with the stories. `open` opens an example and sets it going, and `told` is called when another caption is reached, and `after` has the name of what follows the last story, and opens it. One story is played at a time: the last that was asked for. */
+export function makeTales(laboratory, { text, table }, drive, { open, viewer, told, others, after }) {
     let round = 0;
+    // while a story is opened its machine is not there yet, and no caption speaks of it
+    let isOpening = false;
     const caption = h("p", { class: "caption", "aria-live": "polite", "aria-busy": "false" });
-    const next = () => (viewer.at + 1 < viewer.tale.plays.length ? goTo(viewer.at + 1) : begin(TALES[(TALES.indexOf(viewer.tale) + 1) % TALES.length]));
+    const next = () => {
+        const following = TALES[TALES.indexOf(viewer.tale) + 1];
+        if (viewer.at + 1 < viewer.tale.plays.length) return goTo(viewer.at + 1);
+        return following === undefined ? after.open() : begin(following);
+    };
     const [place, backOne, nextOne] = [h("span", { class: "caption-at" }), guarded(text("captionBack"), { id: "caption-back" }, () => goTo(viewer.at - 1)), button(text("captionNext"), next, { id: "caption-next" })];
     const choices = TALES.map((it) => button(table.tales[it.name].title, () => begin(it), { "data-tale": it.name }));
     const orders = (count) => viewer.tale.plays.slice(0, count).reduce((sum, plays) => sum + plays, viewer.first);
@@ -30,10 +36,12 @@ export function makeTales(laboratory, { text, table }, drive, { open, viewer, to
         told();
         show();
         await action(() => mine === round);
-        if (mine === round) caption.setAttribute("aria-busy", "false");
-        return mine === round;
+        if (mine !== round) return false;
+        caption.setAttribute("aria-busy", "false");
+        return true;
     };
     const begin = async (chosen, at = 0) => {
+        isOpening = true;
         const isHere = await turnTo(chosen, at, async (isWanted) => {
             await open(chosen.example);
             if (isWanted() && chosen.before > 0) await laboratory.step(chosen.before, false);
@@ -49,7 +57,10 @@ export function makeTales(laboratory, { text, table }, drive, { open, viewer, to
             if (missing > 0) await laboratory.step(missing, false);
             if (missing < 0) await laboratory.back(-missing);
         });
-        if (isHere) play();
+        if (!isHere) return;
+        isOpening = false;
+        show();
+        play();
     };
     const play = () => {
         const { tale, at } = viewer;
@@ -62,12 +73,12 @@ export function makeTales(laboratory, { text, table }, drive, { open, viewer, to
         const { tale, at } = viewer;
         for (const control of choices) control.setAttribute("aria-pressed", String(control.dataset.tale === tale?.name));
         caption.dataset.story = tale?.name ?? "";
-        tell(caption, tale === null ? text("chooseTale") : table.tales[tale.name].captions[at]);
+        tell(caption, tale === null ? text("chooseTale") : isOpening ? "" : table.tales[tale.name].captions[at]);
         for (const control of [place, backOne, nextOne]) control.hidden = tale === null;
         if (tale === null) return;
         tell(place, text("captionAt", { at: at + 1, of: tale.plays.length }));
         showLive(backOne, at > 0);
-        tell(nextOne, text(at + 1 < tale.plays.length ? "captionNext" : "nextTale"));
+        tell(nextOne, at + 1 < tale.plays.length ? text("captionNext") : tale === TALES.at(-1) ? after.name : text("nextTale"));
     };
     /** Opens the story and the caption that an address names, each by its number. */
     const openAt = (story, number) => {
@@ -78,6 +89,7 @@ export function makeTales(laboratory, { text, table }, drive, { open, viewer, to
     /** Ends the story. */
     const leave = () => {
         round += 1;
+        isOpening = false;
         Object.assign(viewer, noTale());
         caption.setAttribute("aria-busy", "false");
         show();

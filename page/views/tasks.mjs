@@ -1,6 +1,7 @@
 // Tasks: the text of one, a source that is written for it, and what its check says, in the sentences of ./check_task. The check has a laboratory of its own.
+import { checkClass, textOf } from "../class_check.mjs";
 import { linesIn } from "../lines.mjs";
-import { assembled, checked, setUpOf, speaker, taskIn } from "../task.mjs";
+import { assembled, checked, setUpOf, speaker, taskIn, textAtPage } from "../task.mjs";
 import { button, h, part } from "./dom.mjs";
 import { makeEditor } from "./editor.mjs";
 import { makeCheck, makeVerdict } from "./source.mjs";
@@ -57,26 +58,42 @@ function makeActions({ text }, now, { sentences, code, openLink, answer, setUp, 
         const { task, file, source } = now();
         return asked((link) => checked(link, task, source, { file, sentences, code }));
     };
-    /** Sets the machine up. Whether the source is in it. */
+    const tells = (verdict) => answer.show({ isRight: null, verdict: text(verdict), missing: [] });
+    /** What keeps a source from being put in, as it is told; null where nothing does. */
+    const wrongIn = ({ file, source }) => asked(async (link) => {
+        const { missing } = await assembled(link, source, say);
+        return missing.length === 0 ? null : { isRight: false, verdict: say("wrong", file), missing };
+    });
+    /** Sets the machine up, with the source where that is right. */
     const put = async () => {
-        const { name, task, file, source } = now();
+        const { name, task, source } = now();
         const isBlank = source.trim() === "";
-        const faulty = isBlank ? null : await asked(async (link) => {
-            const { missing } = await assembled(link, source, say);
-            return missing.length === 0 ? null : { isRight: false, verdict: say("wrong", file), missing };
-        });
-        await setUp(`tasks/${name}`, setUpOf(task, isBlank || faulty !== null ? null : source));
-        if (faulty === null && name === now().name) answer.show({ isRight: null, verdict: text("taskIsPut"), missing: [] });
-        return faulty === null && !isBlank;
+        const isWrong = !isBlank && await wrongIn(now()) !== null;
+        await setUp(`tasks/${name}`, setUpOf(task, isBlank || isWrong ? null : source));
+        if (!isWrong && name === now().name) tells(isBlank ? "taskIsPutBlank" : "taskIsPut");
     };
-    const runIt = async () => { if (await put()) run(); };
+    /** Runs the source where it is right; else the machine stays as it is. */
+    const runIt = async () => {
+        const { name, task, source } = now();
+        if (source.trim() === "") return tells("taskIsBlank");
+        if (await wrongIn(now()) !== null) return undefined;
+        await setUp(`tasks/${name}`, setUpOf(task, source));
+        return run();
+    };
     const save = () => {
         const { file, source } = now();
         const href = URL.createObjectURL(new Blob([source], { type: "text/plain" }));
         h("a", { href, download: file }).click();
     };
-    const buttons = Object.entries({ check, run: runIt, put, save, begin, takeBack }).map(([name, action]) => button(text(`${name}Task`), action, { id: `${name === "takeBack" ? "take-back" : name}-task`, title: text(`${name}TaskHint`) }));
+    const buttons = Object.entries({ check, run: runIt, put, save, begin, takeBack }).map(([name, action]) => button(text(`${name}Task`), action, { id: `${name === "takeBack" ? "take-back" : name}-task`, title: text(`${name}TaskHint`), class: name === "check" ? "primary" : null }));
     return { node: h("div", { class: "line" }, ...buttons), showBack: (isThere) => { buttons.at(-1).hidden = !isThere; } };
+}
+
+/** What the check says of the files of a class, in a window of its own and as a file. */
+function showClass(verdicts, { text }, dialog) {
+    const [all, right] = [textOf(verdicts), verdicts.filter(({ isRight }) => isRight).length];
+    const link = h("a", { id: "save-class", href: URL.createObjectURL(new Blob([all], { type: "text/plain" })), download: "class.txt" }, text("classSaved"));
+    dialog(text("classTitle"), h("p", {}, text("classRight", { right, count: verdicts.length })), h("pre", { class: "transcript", tabindex: "0", role: "group", "aria-label": text("classTitle") }, all), h("p", {}, link));
 }
 
 /** The part of the page with the task that is open, and the names and titles of all. `sources` has what pupils have written, `openLink` gives a link to a new laboratory, `checker` says what one says of a source, `setUp` sets
@@ -97,7 +114,7 @@ export function makeTasks(texts, { tasks, sentences }, { sources, openLink, chec
     let editor = null;
     const fill = (source) => {
         if (editor === null) {
-            editor = makeEditor("task", texts, { changed, actions: { F8: () => verdict.next() } });
+            editor = makeEditor("task", texts, { changed, actions: { F8: () => verdict.next() }, moved: () => verdict.refresh() });
             desk.prepend(editor.node);
         }
         if (editor.value() !== source) editor.set(source);
@@ -109,10 +126,19 @@ export function makeTasks(texts, { tasks, sentences }, { sources, openLink, chec
         node.hidden = name === null;
         answer.show(null);
         if (name === null) return;
-        read.replaceChildren(...nodesOf(tasks[name].texts[code]));
+        read.replaceChildren(...nodesOf(textAtPage(tasks[name].texts[code], text("taskLines"))));
         read.scrollTop = 0;
         fill(sources.of(name) ?? tasks[name].given[code]);
         buttons.showBack(sources.before(name) !== null);
+    };
+    /** Checks the files of a class against the task that is open. */
+    const checkAll = async (files, dialog) => {
+        const { task } = now();
+        const own = { ...sentences.en, ...sentences[code] };
+        const told = (at) => answer.show({ isRight: null, verdict: text("classAt", { at, count: files.length }), missing: [] });
+        const said = await withLink(openLink, speaker(own), (link) => checkClass(link, files, { task, sentences: own, code, told }));
+        answer.show(Array.isArray(said) ? null : said);
+        if (Array.isArray(said)) showClass(said, texts, dialog);
     };
     const begin = () => { sources.begin(sources.open); open(sources.open); };
     const takeBack = () => { sources.takeBack(sources.open); open(sources.open); editor.focus(); };
@@ -120,5 +146,5 @@ export function makeTasks(texts, { tasks, sentences }, { sources, openLink, chec
     const desk = h("div", { class: "task-desk" }, verdict.node, buttons.node, answer.node);
     const node = part("tasks", text("tasksName"), h("div", { class: "task" }, read, desk));
     open(sources.open);
-    return { node, titles, open, opened: () => sources.open, has: (name) => Object.hasOwn(tasks, name), show: () => {} };
+    return { node, titles, open, opened: () => sources.open, has: (name) => Object.hasOwn(tasks, name), checkAll, show: () => {} };
 }

@@ -13,11 +13,11 @@ export function titleOf(laboratory, pupil, sources, { text, table }) {
 
 const whenOf = (when, code) => new Intl.DateTimeFormat(code, { dateStyle: "medium", timeStyle: "short" }).format(when);
 
-/** The list of works, the newest first. `open` goes back to one. */
-export function listOfWorks(works, { text, code }, open) {
+/** The list of works, the newest first. `open` goes back to one, and `share` shows one to be sent. */
+export function listOfWorks(works, { text, code }, open, share) {
     const count = ({ lines }) => counted(lines === "" ? 0 : linesIn(lines).length, code);
     const item = (work) => h("li", {}, h("b", {}, text("workOf", { title: work.title || text("blankWork"), when: whenOf(work.when, code) })), ` ${text("workLines", { count: count(work) })} `,
-        work.id === works.id ? text("workNow") : button(text("goBack"), () => open(work), { "data-work": work.id }));
+        work.id === works.id ? text("workNow") : button(text("goBack"), () => open(work), { "data-work": work.id }), " ", button(text("share"), () => share(work), { "data-share": work.id }));
     const all = works.all();
     return h("div", { class: "works" }, h("p", {}, text(all.length === 0 ? "worksNone" : "worksHint")), h("ul", {}, ...all.map(item)));
 }
@@ -25,10 +25,12 @@ export function listOfWorks(works, { text, code }, open) {
 /** The offer of a work. It is there until it is opened or put away. */
 export function makeOffer(work, { text }, { open, forget }) {
     const place = document.getElementById("kept");
-    const end = (action) => () => {
+    const goOn = () => [...document.querySelectorAll("#open, .doors a")].find((it) => it.checkVisibility())?.focus();
+    const end = (action) => async () => {
         place.hidden = true;
-        document.querySelector("#open, .doors a")?.focus();
-        action();
+        goOn();
+        await action();
+        if (document.activeElement === document.body) goOn();
     };
     place.replaceChildren(text("keptSession"), ...waysOut(button(text("openAgain"), end(() => open(work))), button(text("forget"), end(() => forget(work.id)))));
     place.hidden = false;

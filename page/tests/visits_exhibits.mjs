@@ -1,0 +1,285 @@
+// Visits of the exhibits that run a program at the kiosk: each is played to its end by its keys and by touches, upright and across, in both languages; its paper is what its example prints; and whatever is pressed, nothing breaks.
+import assert from "node:assert/strict";
+import { readFileSync } from "node:fs";
+import { dirname, join } from "node:path";
+import { fileURLToPath } from "node:url";
+import { hiddenTexts, laidOut, unhit } from "./seen.mjs";
+import { chance, smallTexts } from "./visits_kiosk.mjs";
+
+const top = join(dirname(fileURLToPath(import.meta.url)), "../..");
+const [ACROSS, UPRIGHT] = [[1920, 1080], [1080, 1920]];
+/** How long a scene may take, at a busy computer. */
+const LONG = 300_000;
+const settled = (browser) => browser.value("laboratoryOfPage().settled()");
+const strike = (browser, key, more = {}) => browser.value(`void document.body.dispatchEvent(new KeyboardEvent("keydown", { key: ${JSON.stringify(key)}, bubbles: true, ...${JSON.stringify(more)} }))`);
+export const paperOf = (browser) => browser.value("laboratoryOfPage().printed.text");
+const toldIn = (browser) => browser.value("document.querySelector('.kiosk-told').textContent");
+const isIn = (scene) => `document.body.dataset.scene === ${JSON.stringify(scene)}`;
+export const isDone = (scene) => `${isIn(scene)} && document.body.dataset.busy === "false"`;
+const textOf = (name, scene, caption, code) => JSON.parse(readFileSync(join(top, `page/exhibits/${name}.json`), "utf8")).scenes[scene].captions[caption].text[code];
+
+/** What an example prints, as its file of expected replies has it. */
+const expectedOf = (name, which = -1) => readFileSync(join(top, `examples/${name}.expected`), "utf8").split("\n").filter((it) => /^printed \d/.test(it)).at(which).replace(/^printed \d+ /, "").replaceAll("[16]", "\n");
+
+/** Opens an exhibit; another query lets the page be opened anew where only what follows # is another. */
+let opened = 0;
+async function open(browser, address, name, code, [width, height], more = "") {
+    opened += 1;
+    await browser.size(width, height);
+    await browser.open(`${address}?lang=${code}&n=${opened}${more}#kiosk=${name}`);
+    await browser.waitFor(isIn("attract"));
+}
+
+/** A picture of a moment. */
+const moment = (browser, pictures, name) => (pictures === undefined ? undefined : browser.picture(join(pictures, `exhibit-${name}.png`)));
+
+/** What is seen now has all its texts whole and large enough, each button is hit, and nothing is to be scrolled. */
+async function assertSeen(browser, what) {
+    await laidOut(browser);
+    assert.deepEqual([...await hiddenTexts(browser), ...await unhit(browser), ...await smallTexts(browser)], [], what);
+    assert.deepEqual(await browser.value("[document.querySelectorAll('.kiosk-bar button').length, document.documentElement.scrollHeight <= innerHeight, document.querySelectorAll('.kiosk-bar .primary').length <= 1]"), [4, true, true], what);
+}
+
+/** A way to press: by a key, or by a finger on the button. */
+const PRESSES = { keys: (browser, number) => strike(browser, String(number)), touches: (browser, number) => browser.tap(`#kiosk-${number}`) };
+
+/** The weather in three acts, each to its end. */
+async function weather(browser, address, press, code, size, pictures) {
+    await open(browser, address, "weather", code, size, "&idle=900");
+    await browser.waitFor("laboratoryOfPage().printed.text.includes('\\n0785')", LONG);
+    await assertSeen(browser, "attract");
+    await press(browser, 1);
+    await browser.waitFor(`${isIn("weather")} && document.querySelector('.paper.washed') !== null && document.querySelector('.row-told')?.textContent === "0250"`, LONG);
+    await moment(browser, pictures, `weather-${code}-${size[0]}`);
+    await assertSeen(browser, "weather");
+    await browser.waitFor(isDone("weather"), LONG);
+    assert.ok(expectedOf("weather/lorenz").startsWith((await paperOf(browser)).replace(/\n[^\n]*$/, "")));
+    await press(browser, 2);
+    await browser.waitFor(`${isIn("again")} && document.querySelector('.row-told')?.textContent === "1275"`, LONG);
+    await moment(browser, pictures, `again-${code}-${size[0]}`);
+    await assertSeen(browser, "again");
+    await browser.waitFor(isDone("again"), LONG);
+    assert.equal(await paperOf(browser), expectedOf("weather/lorenz"));
+    assert.equal(await browser.value("document.querySelector('.typed').dataset.typed"), "1000  -0059  -0058  0240");
+    await press(browser, 3);
+    await browser.waitFor(isDone("drawn"), LONG);
+    await moment(browser, pictures, `drawn-${code}-${size[0]}`);
+    await assertSeen(browser, "drawn");
+    assert.ok(expectedOf("weather/twins").startsWith((await paperOf(browser)).replace(/\n[^\n]*$/, "")));
+    await press(browser, 2);
+    await browser.waitFor(isDone("believed"));
+    assert.equal(await toldIn(browser), textOf("weather", "believed", 1, code));
+    await press(browser, 4);
+    await browser.waitFor(isIn("attract"));
+}
+
+/** The loop: a bet, the carry, and its end. */
+async function loop(browser, address, press, code, size, pictures) {
+    await open(browser, address, "loop", code, size, "&idle=900");
+    await press(browser, 1);
+    await browser.waitFor(isDone("rounds"), LONG);
+    await browser.waitFor(`document.querySelector('.kiosk-told').textContent === ${JSON.stringify(textOf("loop", "rounds", 3, code))}`, LONG);
+    assert.equal(await browser.value("document.querySelectorAll('.kiosk-bar .primary').length"), 0);
+    await assertSeen(browser, "rounds");
+    await press(browser, 3);
+    await browser.waitFor(`${isIn("carry")} && document.querySelector('.bit.now') !== null`, LONG);
+    await press(browser, 2);
+    const seen = await browser.value("document.querySelector('.word-bits').getAttribute('aria-label')");
+    await press(browser, 2);
+    await browser.waitFor(`document.querySelector('.word-bits').getAttribute('aria-label') !== ${JSON.stringify(seen)}`);
+    await moment(browser, pictures, `loop-${code}-${size[0]}`);
+    await assertSeen(browser, "carry");
+    await press(browser, 3);
+    await browser.waitFor(`${isDone("end")} && laboratoryOfPage().panel.status === "halted stop"`, LONG);
+    await browser.waitFor(`document.querySelector('.kiosk-told').textContent === ${JSON.stringify(textOf("loop", "end", 3, code))}`, LONG);
+    assert.equal(await paperOf(browser), expectedOf("drum/loop-without-a-test", 0));
+    await assertSeen(browser, "end");
+}
+
+/** A formula from tape, and one made with the buttons. */
+async function formula(browser, address, press, code, size, pictures) {
+    await open(browser, address, "formula", code, size, "&idle=900");
+    await press(browser, 1);
+    await browser.waitFor(isDone("tape"), LONG);
+    assert.equal(await paperOf(browser), expectedOf("floating-point/formulas", 0));
+    await moment(browser, pictures, `formula-${code}-${size[0]}`);
+    await assertSeen(browser, "tape");
+    assert.match(await browser.value("document.querySelector('.made-orders').textContent"), /^4000 b 4400.*4014 p 1600$/);
+    await press(browser, 3);
+    for (const [scene, number] of [["own", 2], ["operation", 2], ["number", 1], ["operation", 3]]) {
+        await browser.waitFor(isDone(scene), LONG);
+        await assertSeen(browser, scene);
+        await press(browser, number);
+    }
+    await browser.waitFor(isDone("made"), LONG);
+    assert.match(await paperOf(browser), /^ 3\.14285[6-8]e\+00\n$/);
+    await moment(browser, pictures, `made-${code}-${size[0]}`);
+    await assertSeen(browser, "made");
+}
+
+/** A game of twenty-one, shuffled by a number that always gives the same cards. */
+async function twentyOne(browser, address, press, code, size, pictures) {
+    await open(browser, address, "twenty-one", code, size, "&idle=900");
+    await press(browser, 1);
+    await browser.waitFor(isDone("deal"), LONG);
+    await assertSeen(browser, "deal");
+    await press(browser, 2);
+    for (const number of [1, 1, 2]) {
+        await browser.waitFor(isDone("play"), LONG);
+        await press(browser, number);
+        await browser.waitFor("document.body.dataset.busy === 'true'");
+    }
+    await browser.waitFor(isDone("play"), LONG);
+    const paper = await paperOf(browser);
+    assert.ok(paper.includes("too many; i win") && paper.includes("you win") && expectedOf("games/twenty-one").startsWith(paper), paper);
+    await browser.waitFor(`document.querySelector('.kiosk-told').textContent === ${JSON.stringify(textOf("twenty-one", "play", 3, code))}`);
+    await moment(browser, pictures, `twenty-one-${code}-${size[0]}`);
+    await assertSeen(browser, "play");
+    await press(browser, 3);
+    await browser.waitFor(isDone("deal"), LONG);
+    await press(browser, 1);
+    await browser.waitFor(`${isDone("play")} && /^\\d{4}/.test(document.querySelector('.typed').dataset.typed)`, LONG);
+}
+
+/** The screen of choice offers all exhibits, page by page, with what the kiosk had before; each leads back to it; left alone, it begins anew in its own language. */
+async function exhibitsChosen(browser, address, pictures) {
+    await browser.size(...ACROSS);
+    await browser.open(`${address}?lang=de&idle=4#kiosk`);
+    await browser.waitFor(isIn("attract"));
+    const labels = () => browser.value("[...document.querySelectorAll('.kiosk-bar button')].map((it) => it.textContent)");
+    const first = await labels();
+    assert.deepEqual(first, ["Ein Wetter von 1963", "Die Schleife, die ohne Frage endet", "Siebzehn und vier gegen die Maschine", "Mehr ▸"]);
+    await moment(browser, pictures, "choice-de-1920");
+    for (const size of [ACROSS, UPRIGHT, [1366, 768], [1024, 768]]) { await browser.size(...size); await assertSeen(browser, `choice at ${size}`); }
+    await browser.size(...ACROSS);
+    await strike(browser, "4");
+    assert.deepEqual(await labels(), ["Eine Formel geht hinein", "Ein Programm, das sich umschreibt", "Schneller machen", "Mehr ▸"]);
+    await strike(browser, "2");
+    await browser.waitFor("document.body.dataset.state === 'story' && laboratoryOfPage().history.behind === 1");
+    await strike(browser, "4");
+    await browser.waitFor(isIn("attract"));
+    assert.deepEqual(await labels(), first);
+    await strike(browser, "3");
+    await browser.waitFor(isDone("deal"));
+    await browser.waitFor(isIn("attract"));
+    await browser.waitFor(`document.querySelector('#kiosk-1').textContent === ${JSON.stringify(first[0])}`);
+    for (const key of ["4", "4", "2"]) await strike(browser, key);
+    await browser.waitFor("document.documentElement.lang === 'en'");
+    await browser.waitFor("document.documentElement.lang === 'de'");
+    await strike(browser, "L", { ctrlKey: true, shiftKey: true });
+    await browser.waitFor("document.querySelector('.hall') !== null && document.documentElement.dataset.ready === 'true'");
+    assert.deepEqual(await browser.value("[document.body.dataset.exhibit ?? null, document.body.dataset.scene ?? null]"), [null, null]);
+}
+
+/** A file that is opened in Work is shown at the kiosk, with the file in the address; a wrong one is told, and nothing else happens. Back leads to the work as it was. */
+async function exhibitOfOnesOwn(browser, address) {
+    const file = readFileSync(join(top, "docs/exhibits/greeting.json"), "utf8");
+    const give = (text) => browser.value(`(() => {
+        const given = new DataTransfer();
+        given.items.add(new File([${JSON.stringify(text)}], "greeting.json"));
+        const input = document.querySelector("#choices input[type=file]");
+        input.files = given.files;
+        input.dispatchEvent(new Event("change"));
+    })()`);
+    await browser.size(1366, 768);
+    await browser.open(`${address}?lang=en&door=work`);
+    await browser.write("; mine");
+    await give(file.replace('"to": "switch"', '"to": "swich"'));
+    await browser.waitFor("document.querySelector('#notice').textContent.includes('scenes.attract.buttons[0].to is \"swich\". The scenes are attract, switch.')");
+    await give(file);
+    await browser.waitFor(`${isIn("attract")} && laboratoryOfPage().printed.text === "\\ngood day"`);
+    const address2 = await browser.value("location.href");
+    await strike(browser, "1");
+    await browser.waitFor(isDone("switch"));
+    await strike(browser, "2");
+    await browser.waitFor(`laboratoryOfPage().printed.text === "\\ngood night" && document.querySelector('.kiosk-told').textContent === "TRANSFER CONTROL was down: good night."`);
+    await assertSeen(browser, "own exhibit");
+    await browser.value("void history.back()");
+    await browser.waitFor("document.querySelector('.source .CodeMirror') !== null");
+    await settled(browser);
+    assert.equal(await browser.value("document.querySelector('.source .CodeMirror').CodeMirror.getValue()"), "; mine");
+    await browser.open(`${address}?lang=en`);
+    await browser.open(address2);
+    await browser.waitFor(`${isIn("attract")} && laboratoryOfPage().printed.text === "\\ngood day"`);
+    await browser.open(`${address}?lang=en&n=own#exhibit=${encodeURIComponent("{}")}`);
+    await browser.waitFor("document.querySelector('#notice').textContent === 'The exhibit is refused. title is missing. It has to be there: an exhibit has a title and scenes.'");
+    await strike(browser, "3");
+    await browser.waitFor(`${isDone("deal")} && document.querySelector('#notice').hidden`);
+}
+
+/** How many keys and touches a visitor at random has in each exhibit. */
+const TOUCHES = 300;
+
+/** Visitors press keys and touch places at random: the exhibit is in one of its scenes, with four buttons, at its own address, and nothing is refused. */
+async function exhibitsAtRandom(browser, address) {
+    const keys = ["1", "2", "2", "3", "3", "4", "x", "Enter", "Escape", "F5", "ArrowLeft"];
+    for (const name of ["weather", "loop", "twenty-one", "formula"]) {
+        const { scenes } = JSON.parse(readFileSync(join(top, `page/exhibits/${name}.json`), "utf8"));
+        await open(browser, address, name, "en", [1366, 768]);
+        const [before, among] = [await browser.value("location.href"), chance(name.length)];
+        for (let done = 0; done < TOUCHES; done += 20) {
+            const touches = Array.from({ length: 20 }, () => (among(2) === 0 ? { key: keys[among(keys.length)] } : { x: among(1366), y: 500 + among(268) }));
+            await browser.value(`(async () => {
+                for (const { key, x, y } of ${JSON.stringify(touches)}) {
+                    if (key === undefined) document.elementFromPoint(x, y)?.dispatchEvent(new MouseEvent("click", { bubbles: true, cancelable: true, clientX: x, clientY: y }));
+                    else document.body.dispatchEvent(new KeyboardEvent("keydown", { key, bubbles: true, cancelable: true }));
+                    await new Promise((resolve) => setTimeout(resolve, ${10 * (done % 3)}));
+                }
+            })()`);
+            const [scene, buttons, href, notice] = await browser.value("[document.body.dataset.scene, document.querySelectorAll('.kiosk-bar button').length, location.href, document.querySelector('#notice').textContent]");
+            assert.deepEqual([scene in scenes, buttons, href, notice], [true, 4, before, ""], `${name}: ${scene}`);
+        }
+        await open(browser, address, name, "en", [1366, 768]);
+    }
+    return `${4 * TOUCHES} keys and touches`;
+}
+
+/** In the first scene and where something stands beside the paper, all is seen at each size of a kiosk, on a tablet, and on a telephone. */
+async function exhibitsFit(browser, address) {
+    for (const code of ["en", "de"]) for (const [name, keys] of [["weather", ""], ["weather", "2"], ["loop", "1"], ["formula", "1"], ["twenty-one", "1"]]) {
+        await open(browser, address, name, code, [1366, 768], "&idle=900");
+        for (const key of keys) await strike(browser, key);
+        await browser.waitFor("document.querySelector('.kiosk-told').textContent !== ''");
+        for (const size of [[1366, 768], ACROSS, [1024, 768], UPRIGHT, [768, 1024], [390, 844]]) {
+            await browser.size(...size);
+            await laidOut(browser);
+            const small = size[0] > 900 && size[1] >= 700 ? await smallTexts(browser) : [];
+            assert.deepEqual([...await hiddenTexts(browser), ...await unhit(browser), ...small], [], `${name} ${keys}, ${code}, at ${size}`);
+            assert.ok(await browser.value("document.documentElement.scrollHeight <= innerHeight"), `${name} at ${size}`);
+        }
+    }
+}
+
+/** How many seconds the weather may take to its row 1000, at once, on a computer that has nothing else to do. */
+const LONGEST_WEATHER = Number(process.env.LONGEST_WEATHER ?? 3);
+
+/** The weather up to its row 1000, at once: its paper is that of the example up to there. Gives the seconds. */
+async function weatherFast(browser, address) {
+    await browser.open(`${address}?lang=en&door=work#weather/lorenz`);
+    await browser.value("laboratoryOfPage().command(...laboratoryOfPage().rules.map(() => 'drop 0'))");
+    const [seconds, paper] = await browser.value(`(async () => {
+        const [laboratory, began] = [laboratoryOfPage(), performance.now()];
+        await laboratory.runUntil(() => /\\n1000 .*\\n/.test(laboratory.printed.text), 20_000, 5_000_000);
+        return [(performance.now() - began) / 1000, laboratory.printed.text];
+    })()`);
+    assert.ok(expectedOf("weather/lorenz").startsWith(paper.slice(0, paper.lastIndexOf("\n"))));
+    assert.match(paper, /\n1000 /);
+    assert.ok(seconds <= LONGEST_WEATHER, `${seconds.toFixed(1)} seconds`);
+    return `${seconds.toFixed(1)} seconds to row 1000`;
+}
+
+const VISITS = {
+    weatherByKeys: (browser, address, pictures) => weather(browser, address, PRESSES.keys, "en", ACROSS, pictures), weatherByTouches: (browser, address, pictures) => weather(browser, address, PRESSES.touches, "de", UPRIGHT, pictures),
+    loopByKeys: (browser, address, pictures) => loop(browser, address, PRESSES.keys, "en", ACROSS, pictures), loopByTouches: (browser, address, pictures) => loop(browser, address, PRESSES.touches, "de", UPRIGHT, pictures),
+    formulaByKeys: (browser, address, pictures) => formula(browser, address, PRESSES.keys, "de", ACROSS, pictures), formulaByTouches: (browser, address, pictures) => formula(browser, address, PRESSES.touches, "en", UPRIGHT, pictures),
+    twentyOneByKeys: (browser, address, pictures) => twentyOne(browser, address, PRESSES.keys, "de", ACROSS, pictures), twentyOneByTouches: (browser, address, pictures) => twentyOne(browser, address, PRESSES.touches, "en", UPRIGHT, pictures),
+    weatherFast, exhibitsChosen, exhibitOfOnesOwn, exhibitsAtRandom, exhibitsFit,
+};
+
+/** The visits of the page at an address, by their names. */
+export const visitsOfExhibits = (address, pictures) => Object.fromEntries(Object.entries(VISITS).map(([name, visit]) => [name, async (browser) => {
+    const did = await visit(browser, address, pictures);
+    await browser.open(`${address}?lang=en&door=work`);
+    await browser.size(1500, 1250);
+    return did;
+}]));
