@@ -24,9 +24,18 @@ help_where_asked() {
     esac
 }
 
+# Whether this is an installed package: its launchers lie with a file that says so, and there are no sources.
+is_packaged() {
+    [ -f "$top/packaged" ]
+}
+
 # Where the proved program lies, and beside it the line of the toolchain that proved it.
 program_path() {
-    echo "$top/crates/$1/out/$1"
+    if is_packaged; then
+        echo "$top/programs/$1"
+    else
+        echo "$top/crates/$1/out/$1"
+    fi
 }
 
 # The line that `rt version` prints; read from its file where that lies beside the command, since asking takes a while.
@@ -75,6 +84,10 @@ crates_of() {
 is_proved() {
     local program crate newer
     program=$(program_path "$1")
+    if is_packaged; then
+        [ -x "$program" ]
+        return
+    fi
     [ -x "$program" ] && [ -f "$program.toolchain" ] || return 1
     ! command -v rt >/dev/null 2>&1 || toolchain_line | cmp -s - "$program.toolchain" || return 1
     [ ! "$top/crates.txt" -nt "$program" ] || return 1
@@ -86,7 +99,7 @@ is_proved() {
 
 # The folder of the proved module for WebAssembly and of the programs over it, and beside the module the sum of the sources that it was made of.
 module_path() {
-    echo "$top/page/module/lgp_c_region.wasm"
+    echo "$top/libraries/javascript/lgp_c_region.wasm"
 }
 
 # A sum over the sources of which the module is made.
@@ -104,7 +117,8 @@ has_node() {
 
 # Whether the proved module of today's sources is there, and node, which runs it.
 has_module() {
-    has_node && [ -f "$(module_path)" ] && module_sources | cmp -s - "$(module_path).sources"
+    has_node && [ -f "$(module_path)" ] || return 1
+    is_packaged || module_sources | cmp -s - "$(module_path).sources"
 }
 
 # Notes that the module that lies there is made of today's sources.
@@ -119,10 +133,33 @@ run_module() {
     [ -e /dev/fd/0 ] || exec </
     [ -e /dev/fd/1 ] || exec >/dev/full
     [ -e /dev/fd/2 ] || exec 2>/dev/full
-    exec node "$top/page/module/terminal.mjs" "$caller" "$@"
+    exec node "$top/libraries/javascript/terminal.mjs" "$caller" "$@"
 }
 
-# Writes what the program writes for words that ask for its help or its version, as .ci/calls keeps it, and ends; returns for all other words.
+# The home page of the project on a line of its own, to go after the version; nothing where neither tools/packages/address nor a package
+# names one.
+home_line() {
+    local home
+    home=$(sed -n 's/^home page: *//p' "$top/packaged" "$top/tools/packages/address" 2>/dev/null)
+    [ -z "$home" ] || printf '\n%s' "$home"
+}
+
+# Where the words of a call ask only for the version: writes that of the native program, and the home page, and ends.
+tell_version() {
+    local program text
+    [ $# -eq 2 ] || return 0
+    case $2 in --version | -V) ;; *) return 0 ;; esac
+    program=$(program_path "$1")
+    text=$("$program" "$2") || exit
+    if ! echo "$text$(home_line)" 2>/dev/null; then
+        say "the output could not be written"
+        exit 2
+    fi
+    exit 0
+}
+
+# Writes what the program writes for words that ask for its help or its version, by the table that the module's programs have too, and ends;
+# returns for all other words.
 answer_recorded() {
     local last=${!#} command='' text
     if [ "$caller" = lgp_lab ]; then
@@ -133,11 +170,12 @@ answer_recorded() {
         esac
     fi
     case $last in --help | -h | --version | -V) ;; *) return 0 ;; esac
-    text=$(awk -v call="\$ $caller ${command:+$command }$last </dev/null" '
+    text=$(awk -v call="\$ $caller ${command:+$command }$last" '
         /^\$ / { is_it = ($0 == call); next }
         is_it && sub(/^> /, "") { print; found = 1 }
         END { exit !found }
-    ' "$top/.ci/calls.expected" 2>/dev/null) || return 0
+    ' "$(dirname "$(module_path)")/help.txt" 2>/dev/null) || return 0
+    case $last in --version | -V) text+=$(home_line) ;; esac
     if ! echo "$text" 2>/dev/null; then
         say "the output could not be written"
         exit 2
@@ -148,11 +186,14 @@ answer_recorded() {
 # Where neither the proved program nor the module is there: help and version are written as they are kept, and all else ends in a line that
 # says what would do it.
 give_up_on() {
-    local way="with the Rattle toolchain ./prove $1 makes the program, once, in half an hour"
+    local way="with the Rattle toolchain, ./prove $1 builds the native program in half an hour"
     shift
     answer_recorded "$@"
-    has_node || give_up "the proved program of these sources is not here, nor node, 18 or later, which runs the proved module: $way"
-    give_up "neither the proved program nor the proved module here was made from these sources: $way"
+    if is_packaged; then
+        give_up "cannot run: install Node.js 18 or later (nodejs.org, or the package nodejs of your system), or open laboratory.html of this package in a browser"
+    fi
+    has_node || give_up "cannot run: install Node.js 18 or later (nodejs.org, or the package nodejs of your system), or open page/laboratory.html in a browser; $way"
+    give_up "cannot run: neither the native program nor the module was made from these sources; $way, and page/make makes the module"
 }
 
 # How a program is run: as the proved program, else by the module; `none` where neither is there. For tests CONDUGWA_RUN names one of the two.

@@ -12,7 +12,7 @@ import sys
 import threading
 import time
 
-TOP = os.path.dirname(os.path.dirname(os.path.abspath(__file__)))
+TOP = os.path.dirname(os.path.dirname(os.path.dirname(os.path.abspath(__file__))))
 PROGRAM = f"{TOP}/crates/lgp30/out/lgp30"
 DIGITS = "0123456789fgjkqw"
 NAMES = "normal oneop manual start clear fill execute compute read".split()

@@ -5,14 +5,14 @@
 # orders less 1,000. Where SIMH's LGP-30 is installed (Debian package simh, program lgp), it runs the same loops in the same way. Needs
 # valgrind. Nothing of this is part of the check.
 set -eu
-top=$(cd "$(dirname "$0")/.." && pwd)
+top=$(cd "$(dirname "$0")/../.." && pwd)
 work=$(mktemp -d)
 trap 'rm -rf "$work"' EXIT
 short=20001
 long=120001
 
 # The words of the loops, `small` and `large`.
-. "$top/bench/loops.sh"
+. "$top/tools/bench/loops.sh"
 
 # Instructions of a command whose standard input is a file.
 instructions() {
@@ -43,7 +43,7 @@ simh_script() {
     echo "exit"
 }
 
-# The instructions an order of a program, by a command, on the loop whose scripts lie in the folder.
+# The host instructions per order of a program, by a command, on the loop whose scripts lie in the folder.
 counted() {
     a=$(instructions "$work/$2-$short" "$top/crates/$1/out/$1")
     b=$(instructions "$work/$2-$long" "$top/crates/$1/out/$1")
@@ -73,7 +73,7 @@ for loop in small large; do
     done
     for command in orders run; do
         count=$(counted lgp30 $command)
-        echo "$loop: $count instructions an order, by $command"
+        echo "$loop: $count host instructions per order, by $command"
     done
     count=$(counted lgp30m run)
     echo "$loop: $count by run in the monitor"

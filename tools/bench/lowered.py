@@ -51,7 +51,7 @@ def main():
     count = int(sys.argv[1]) if len(sys.argv) > 1 else 20_000
     flag = "--experimental-wasm-memory64"  # node 20 has memory64 by this flag, which later ones lack
     knows = subprocess.run(["node", flag, "-e", "0"], stderr=subprocess.DEVNULL, check=False).returncode == 0
-    words = [*([flag] if knows else []), "--no-warnings", "bench/lowered.mjs", "page/lgp_c_region64.wasm", "page/module/lgp_c_region.wasm"]
+    words = [*([flag] if knows else []), "--no-warnings", "tools/bench/lowered.mjs", "page/lgp_c_region64.wasm", "libraries/javascript/lgp_c_region.wasm"]
     with subprocess.Popen(["node", *words], cwd=TOP, stdin=subprocess.PIPE, text=True) as both:
         for case in cases(count):
             both.stdin.write(in_text(case))

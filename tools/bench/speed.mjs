@@ -1,7 +1,7 @@
 // How many orders a second: of the proved program, where ./prove has made it; of sessions in node, with the module as the proofs leave it and
 // with the lowered one; and of the page, in each engine.
 //
-//     node bench/speed.mjs [--write] [MILLIONS OF ORDERS, 100 where none is said]
+//     node tools/bench/speed.mjs [--write] [MILLIONS OF ORDERS, 100 where none is said]
 //
 // With --write the numbers become the rows of the table of docs/DEVELOPMENT.md that has them, with what they are of the program's.
 // Each but the page is the best of three runs. Times on the wall vary: other work on the machine makes them longer. No part of the check.
@@ -9,17 +9,17 @@ import { spawnSync } from "node:child_process";
 import { existsSync, readFileSync, writeFileSync } from "node:fs";
 import { dirname, join } from "node:path";
 import { fileURLToPath } from "node:url";
-import { Session, compiled } from "../page/module/session.mjs";
+import { Session, compiled } from "../../libraries/javascript/session.mjs";
 import "./wide_memory.mjs";
 
-const top = join(dirname(fileURLToPath(import.meta.url)), "..");
+const top = join(dirname(fileURLToPath(import.meta.url)), "../..");
 const program = join(top, "crates/lgp30/out/lgp30");
-const modules = { "node, the module as the proofs leave it": join(top, "page/lgp_c_region64.wasm"), "node, the lowered module": join(top, "page/module/lgp_c_region.wasm") };
+const modules = { "node, the module as the proofs leave it": join(top, "page/lgp_c_region64.wasm"), "node, the lowered module": join(top, "libraries/javascript/lgp_c_region.wasm") };
 const TURNS = 3;
 const FLAG = "--experimental-wasm-memory64"; // node 20 has memory64 by this flag, which later ones lack
 
 /** The loop of four orders that counts up, of loops.sh, and its start. */
-const [, words] = /small='([^']*)'/.exec(readFileSync(join(top, "bench/loops.sh"), "utf8"));
+const [, words] = /small='([^']*)'/.exec(readFileSync(join(top, "tools/bench/loops.sh"), "utf8"));
 const loop = [...words.split("\n").map((word) => `put ${word}`), "press start"];
 
 /** How long a deed takes, in seconds. */

@@ -9,7 +9,13 @@ _lgp_lab() {
     fi
     case ${COMP_WORDS[1]} in
         help) mapfile -t COMPREPLY < <(compgen -W 'asm tape run script batch' -- "$current") ;;
-        asm | tape | run | script | batch)
+        script)
+            case $current in
+                -*) mapfile -t COMPREPLY < <(compgen -W '-h --help --verbose' -- "$current") ;;
+                *) mapfile -t COMPREPLY < <(compgen -f -- "$current") ;;
+            esac
+            ;;
+        asm | tape | run | batch)
             case $current in
                 -*) mapfile -t COMPREPLY < <(compgen -W '-h --help' -- "$current") ;;
                 *) mapfile -t COMPREPLY < <(compgen -f -- "$current") ;;

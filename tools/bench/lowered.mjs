@@ -1,8 +1,8 @@
 // Answers scripts by the module as the proofs leave it and by the lowered one, and compares: the status, the length of the replies, and the
-// room for them byte for byte, up to its end and some bytes beyond. Each line of standard input is a case of bench/lowered.py, in JSON: the script, the
+// room for them byte for byte, up to its end and some bytes beyond. Each line of standard input is a case of tools/bench/lowered.py, in JSON: the script, the
 // bytes of the room for replies and those of the memory handed over, and perhaps the replies that another program gives.
 //
-//     node --experimental-wasm-memory64 bench/lowered.mjs page/lgp_c_region64.wasm page/module/lgp_c_region.wasm < cases
+//     node --experimental-wasm-memory64 tools/bench/lowered.mjs page/lgp_c_region64.wasm libraries/javascript/lgp_c_region.wasm < cases
 import { readFileSync } from "node:fs";
 import { createInterface } from "node:readline";
 import "./wide_memory.mjs";
@@ -80,7 +80,7 @@ function compare(one, other, script) {
     count.memoryEnds += one.status === NO_MEMORY;
     if (isSame(one, other)) return;
     count.differ += 1;
-    if (count.differ <= 5) console.error(`bench/lowered: status ${one.status} and ${other.status}, outcome ${one.outcome} and ${other.outcome}: ${JSON.stringify(script.toString("latin1").slice(0, 300))}`);
+    if (count.differ <= 5) console.error(`tools/bench/lowered: status ${one.status} and ${other.status}, outcome ${one.outcome} and ${other.outcome}: ${JSON.stringify(script.toString("latin1").slice(0, 300))}`);
 }
 
 for await (const text of createInterface({ input: process.stdin })) {

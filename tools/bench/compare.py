@@ -2,8 +2,8 @@
 """Measures the laboratory and SIMH's simulator lgp in one run, and writes the last part of docs/COMPARISON.md: instructions of the processor that an
 order takes, by callgrind, and the sectors at which a word does not delay a loop. No part of the check.
 
-    bench/compare.py            shows what it measures
-    bench/compare.py --write    writes it into the page, with the date
+    tools/bench/compare.py            shows what it measures
+    tools/bench/compare.py --write    writes it into the page, with the date
 
 It needs lgp (Debian package simh), valgrind and node. Without the proved program the laboratory's instructions stay as the page has them.
 """
@@ -15,13 +15,13 @@ import subprocess
 import sys
 import tempfile
 
-TOP = pathlib.Path(__file__).resolve().parent.parent
+TOP = pathlib.Path(__file__).resolve().parents[2]
 PAGE = TOP / "docs" / "COMPARISON.md"
-MARKER = "<!-- What follows is written by bench/compare.py --write. -->"
+MARKER = "<!-- What follows is written by tools/bench/compare.py --write. -->"
 PROGRAM = TOP / "crates" / "lgp30" / "out" / "lgp30"
-MONITOR = ["node", TOP / "page" / "module" / "terminal.mjs", "lgp_monitor"]
+MONITOR = ["node", TOP / "libraries" / "javascript" / "terminal.mjs", "lgp_monitor"]
 SHORT, LONG = 20_001, 120_001
-# bring, add, hold, jump: a loop that counts up, as bench/orders.sh has it
+# bring, add, hold, jump: a loop that counts up, as tools/bench/orders.sh has it
 LOOP = {"0000": "000100j8", "0001": "000q00jj", "0002": "000j00j8", "0003": "000f0000", "0051": "00000002"}
 USUAL = str.maketrans("fgjkqw", "ABCDEF")
 
@@ -76,12 +76,12 @@ def sectors_here():
 
 
 def measured(text):
-    before = re.search(r"^\| instructions an order \| ([\d,.]+)", text, re.M)
+    before = re.search(r"^\| host instructions per order \| ([\d,.]+)", text, re.M)
     ours = an_order(of_program) if PROGRAM.is_file() else f"{before[1]} (an earlier run)" if before else "not measured"
     version = re.search(r"simulator (V\S+)", simh(["show version"]))[1]
     return (f"Measured on {datetime.date.today()} with SIMH {version}.\n\n| | Condugwa | SIMH |\n|---|---|---|\n"
-            f"| instructions an order | {ours} | {an_order(of_simh)} |\n"
-            f"| sectors of a word that `b` at 0000 and `u 0000` at 0001 reach in one turn | {' '.join(sectors_here())} | {' '.join(sectors_of_simh())} |\n")
+            f"| host instructions per order | {ours} | {an_order(of_simh)} |\n"
+            f"| operand sectors for which the loop `b` at 0000, `u 0000` at 0001 takes a single turn | {' '.join(sectors_here())} | {' '.join(sectors_of_simh())} |\n")
 
 
 def main():

@@ -2,23 +2,23 @@
 // By the proved monitor, where ./prove lgp30m has made it and valgrind is installed: the instructions of `trace-data 1`, as lines and as JSON, of
 // `run 1` and of two comments, after 5,000 orders, so that 4,096 steps are kept: 2,000 lines less 1,000.
 //
-//     node bench/replies.mjs
+//     node tools/bench/replies.mjs
 //
 // Times are the best of some runs, and other work on the machine makes them longer. No part of the check.
 import { spawnSync } from "node:child_process";
 import { existsSync, readFileSync } from "node:fs";
 import { dirname, join } from "node:path";
 import { fileURLToPath } from "node:url";
-import { Session, compiled } from "../page/module/session.mjs";
+import { Session, compiled } from "../../libraries/javascript/session.mjs";
 
-const top = join(dirname(fileURLToPath(import.meta.url)), "..");
+const top = join(dirname(fileURLToPath(import.meta.url)), "../..");
 const program = join(top, "crates/lgp30m/out/lgp30m");
-const module = compiled(readFileSync(join(top, "page/module/lgp_c_region.wasm")));
+const module = compiled(readFileSync(join(top, "libraries/javascript/lgp_c_region.wasm")));
 const TURNS = 9;
 const LINES = 4000;
 
 /** The loop of four orders that counts up, of loops.sh, and its start. */
-const [, words] = /small='([^']*)'/.exec(readFileSync(join(top, "bench/loops.sh"), "utf8"));
+const [, words] = /small='([^']*)'/.exec(readFileSync(join(top, "tools/bench/loops.sh"), "utf8"));
 const loop = [...words.split("\n").map((word) => `put ${word}`), "press start"];
 
 /** The shortest of some turns, in milliseconds. */

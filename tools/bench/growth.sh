@@ -3,7 +3,7 @@
 # about twice as many, not four times. The inputs: a tape that is read word time by word time; a source of short lines, each with a label
 # of its own and an operand; a source of comments. Needs valgrind. Nothing of this is part of the check.
 set -eu
-top=$(cd "$(dirname "$0")/.." && pwd)
+top=$(cd "$(dirname "$0")/../.." && pwd)
 work=$(mktemp -d)
 trap 'rm -rf "$work"' EXIT
 

@@ -3,10 +3,10 @@
 # neither. Each line has the seconds by the clock and of the processor, the status, and the last line that was written; at a terminal three
 # of the seconds are the typist's. The figures are in docs/DEVELOPMENT.md.
 #
-#     bench/first_minutes.sh            all three
-#     bench/first_minutes.sh node       one of them: node, toolchain or neither
+#     tools/bench/first_minutes.sh            all three
+#     tools/bench/first_minutes.sh node       one of them: node, toolchain or neither
 set -u
-top=$(dirname "$(dirname "$(readlink -f "$0")")") || exit 1
+top=$(cd "$(dirname "$(readlink -f "$0")")/../.." && pwd) || exit 1
 place=$(mktemp -d) || exit 1
 trap 'rm -rf "$place"' EXIT
 

@@ -12,7 +12,7 @@ import subprocess
 import sys
 import tempfile
 
-TOP = os.path.dirname(os.path.dirname(os.path.abspath(__file__)))
+TOP = os.path.dirname(os.path.dirname(os.path.dirname(os.path.abspath(__file__))))
 DIGITS = "0123456789fgjkqw"
 # What is printed: codes of letters, so that the digits which SIMH's typewriter also writes as it reads a tape are told from them.
 PRINTED = [f"{code:02}00" for code in range(1, 64, 4)]
