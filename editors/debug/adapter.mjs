@@ -340,8 +340,10 @@ export class DebugAdapter {
             stepOut: () => {
                 throw new Refused("this machine has no calls to step out of: set a breakpoint where the routine returns to");
             },
-            stepBack: () => stopping(this.#runner.stepBack()),
-            reverseContinue: () => stopping(this.#runner.runBack()),
+            stepBack: async (given, order) => stopping(await this.#goneBack(order, (isInterrupted) => this.#runner.stepBack(isInterrupted))),
+            reverseContinue: async (given, order) => (
+                stopping(await this.#goneBack(order, (isInterrupted) => this.#runner.runBack(isInterrupted)))
+            ),
             pause: () => this.#runner.pause(),
             gotoTargets: async ({ source, line }) => {
                 const isOwn = source.path !== undefined && await this.#identityOf(source.path) === this.#program.identity;
@@ -357,6 +359,18 @@ export class DebugAdapter {
         };
     }
 
+    /** Goes back. What an operator did after that moment is taken back with it: that is told, and kept as it was. */
+    async #goneBack(order, work) {
+        const stop = await work(() => this.#interruptedAt > order);
+        const [first, ...more] = this.#machine.takenBack.splice(0);
+        if (first !== undefined) {
+            this.#options.shelf?.putSessionAway();
+            const others = more.length === 0 ? "" : ` and ${more.length} more`;
+            this.#event("output", { category: "console", output: `taken back, since it was done later: ${first}${others}\n` });
+        }
+        return stop;
+    }
+
     #identityOf(path) {
         return this.#options.identityOf?.(path) ?? path;
     }
@@ -367,6 +381,7 @@ export class DebugAdapter {
         this.#options.shelf?.putSessionAway();
         const machine = new Machine(this.#openSession, this.#options.consoleOver);
         const program = await Program.broughtInto(machine, launch, this.#options);
+        machine.begin();
         [this.#launch, this.#machine, this.#program] = [launch, machine, program];
         [this.#rules, this.#variables, this.#memory] = [new Rules(machine, program), new Variables(machine), new Memory(machine)];
         this.#printing = new Printing(machine, this.#typewriter, (output) => this.#event("output", { category: "stdout", output }));

@@ -1,10 +1,11 @@
 // @ts-check
 // The laboratory of a debugger: what it asks of the monitor, and what an operator does at the console for it. What is known of the machine
 // is in the replies.
-import { bytesFrom, textFrom, wordsOf } from "../../libraries/javascript/lines.mjs";
+import { bytesFrom, linesIn, textFrom, wordsOf } from "../../libraries/javascript/lines.mjs";
 import * as replies from "../../libraries/javascript/replies.mjs";
 import { TextSession } from "../../libraries/javascript/text_session.mjs";
 import { isYes } from "../answers.mjs";
+import { Past } from "./past.mjs";
 import { Recorded, withoutAsides } from "./recorded.mjs";
 
 /** What answers another line, and asks as that does. */
@@ -32,10 +33,15 @@ export const valueOf = (record) => ["digits", "order", "number", "fraction"].fla
 
 export class Machine {
     #openSession;
+    #consoleOver;
     #session;
     #recorded;
     /** @type {any} what types lines that may name files, or null */
     #console;
+    /** How many lines of the transcript brought the program into the machine. */
+    #begun = 0;
+    /** @type {string[]} what an operator did after the moment that was gone back to, when orders were gone back over that are not kept */
+    takenBack = [];
     /** @type {TextSession | null} */
     #beside = null;
     /** @type {Map<string, boolean> | null} */
@@ -50,9 +56,19 @@ export class Machine {
      */
     constructor(openSession, consoleOver = null) {
         this.#openSession = openSession;
-        this.#session = openSession();
-        this.#recorded = new Recorded(this.#session);
-        this.#console = consoleOver?.(this.#session, openSession) ?? null;
+        this.#consoleOver = consoleOver;
+        this.#goOnIn(openSession());
+    }
+
+    #goOnIn(session) {
+        this.#session = session;
+        this.#recorded = new Recorded(session);
+        this.#console = this.#consoleOver?.(session, this.#openSession) ?? null;
+    }
+
+    /** The program is in the machine: what is done from now on can be gone back over. */
+    begin() {
+        this.#begun = linesIn(this.transcript()).length;
     }
 
     /** The reply to a line that does something. */
@@ -98,6 +114,7 @@ export class Machine {
     /** What a console line is answered, a refusal too. */
     async types(line) {
         if (!this.isQuestion(line)) this.#orders = 0;
+        if (wordsOf(line)[0] === "new") this.#begun = 0;
         if (this.#console === null || Recorded.isConcerned(line)) return shown(this.#recorded.answer(typed(line)));
         this.#recorded.note(typed(line));
         return shown(withoutAsides(await this.#console.type(typed(line))));
@@ -216,15 +233,48 @@ export class Machine {
         this.#orders = Math.max(0, before - orders);
     }
 
+    /** All that was done. `letOthersGo` is awaited now and then, and throws `Interrupted` where it is enough. */
+    async #past(letOthersGo) {
+        const past = new Past(this.#openSession, letOthersGo);
+        await past.follow(linesIn(this.transcript()), this.#begun);
+        return past;
+    }
+
+    /** Goes to the end of so many orders of the past, with the steps before it. */
+    async #goTo(past, orders) {
+        const { opened, since, undone } = await past.openedAfter(orders);
+        this.#goOnIn(opened);
+        this.#orders = since;
+        this.takenBack.push(...undone);
+    }
+
     /** Goes back over one order; whether there was one. */
-    stepBack() {
-        if (this.kept() === 0) return false;
+    async stepBack(letOthersGo) {
+        if (this.kept() === 0) {
+            const past = await this.#past(letOthersGo);
+            if (past.orders === 0) return false;
+            await this.#goTo(past, past.orders);
+        }
         this.#back(1);
         return true;
     }
 
     /** Goes back to the latest order that a rule hits: what the monitor says of it, or null where there is none. */
-    last() {
+    async last(letOthersGo) {
+        const last = this.#lastKept();
+        if (last !== null || this.rules().length === 0) return last;
+        const past = await this.#past(letOthersGo);
+        const rules = this.rules().map((record) => ({ kind: record.get("kind"), address: record.get("address") }));
+        for (const orders of await past.stops(rules)) {
+            await this.#goTo(past, Math.min(orders + 1, past.orders));
+            const far = this.#lastKept();
+            if (far !== null) return far;
+        }
+        return null;
+    }
+
+    /** The same as far as steps are kept. */
+    #lastKept() {
         const before = this.#orders;
         const reply = this.tries("last");
         if (replies.isRefusal(reply)) return null;
@@ -233,11 +283,13 @@ export class Machine {
         return last;
     }
 
-    /** Goes back as far as orders are kept; over how many that was. */
-    toFirst() {
+    /** Goes back to the first order; whether there was one. */
+    async toFirst(letOthersGo) {
+        const past = await this.#past(letOthersGo);
+        if (past.orders > 0) await this.#goTo(past, 1);
         const orders = this.kept();
-        if (orders > 0) this.#back(orders);
-        return orders;
+        if (orders > 0) this.#back(past.orders > 0 ? 1 : orders);
+        return orders > 0;
     }
 
     /** Lets the machine go on, as the monitor says that it can; whether it goes. One that waits for keys does not. */

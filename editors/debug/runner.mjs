@@ -2,11 +2,15 @@
 // Runs of the machine, in portions so that a pause is heard, up to a point at which a client wants it to stop.
 import { nextPortion } from "../../page/portions.mjs";
 import { Refused } from "./machine.mjs";
+import { Interrupted } from "./past.mjs";
 
 const FIRST_PORTION = 2000;
 /** After how many milliseconds others have their turn. */
 const TURN = 20;
 const OVERFLOW = "halted overflow";
+/** Where a way back ends. */
+const AT_BEGINNING = "the end of the way back, at {}: the program begins here";
+const WITHOUT_HIT = "the end of the way back, at {}: it hits no breakpoint";
 
 /** Lets what waits be done. */
 export const letOthersGo = () => new Promise((resume) => { setTimeout(resume); });
@@ -145,27 +149,43 @@ export class Runner {
     }
 
     /** Goes back one order. */
-    stepBack() {
-        return this.#machine.stepBack()
-            ? { reason: "step", what: "a step back to {}" }
-            : { reason: "entry", what: "the end of the way back, at {}: no order before it is kept" };
+    async stepBack(isInterrupted) {
+        return this.#goneBack(isInterrupted, async (letOthersGo) => (
+            await this.#machine.stepBack(letOthersGo) ? { reason: "step", what: "a step back to {}" } : { reason: "entry", what: AT_BEGINNING }
+        ));
     }
 
-    /** Goes back to the latest order that a breakpoint hits, or to the first that is kept. */
-    runBack() {
-        for (;;) {
-            const said = this.#machine.last();
-            if (said === null) return {
-                reason: "entry",
-                what: this.#machine.toFirst() > 0
-                    ? "the end of the way back, at {}: it hits no breakpoint"
-                    : "the end of the way back, at {}: no order before it is kept",
-            };
-            const points = this.#rules.stopsBack(said.rule);
-            if (points === null) continue;
-            return this.#rules.rule(said.rule).kind === "break"
-                ? { reason: "breakpoint", what: "back to a breakpoint at {}", points }
-                : { reason: "data breakpoint", what: "back to {}, where a watched word is about to change", points };
+    /** Goes back to the latest order that a breakpoint hits, or to the first order of the program. */
+    async runBack(isInterrupted) {
+        return this.#goneBack(isInterrupted, async (letOthersGo) => {
+            for (;;) {
+                const said = await this.#machine.last(letOthersGo);
+                if (said === null) return { reason: "entry", what: await this.#machine.toFirst(letOthersGo) ? WITHOUT_HIT : AT_BEGINNING };
+                const points = this.#rules.stopsBack(said.rule);
+                if (points !== null) return this.#stopBack(said.rule, points);
+            }
+        });
+    }
+
+    #stopBack(rule, points) {
+        return this.#rules.rule(rule).kind === "break"
+            ? { reason: "breakpoint", what: "back to a breakpoint at {}", points }
+            : { reason: "data breakpoint", what: "back to {}, where a watched word is about to change", points };
+    }
+
+    /** The stop of a way back, which may take long where its steps are not kept, and is heard to be enough. */
+    async #goneBack(isInterrupted, work) {
+        let turn = performance.now();
+        try {
+            return await work(async () => {
+                if (performance.now() - turn < TURN) return;
+                await letOthersGo();
+                turn = performance.now();
+                if (isInterrupted()) throw new Interrupted();
+            });
+        } catch (failure) {
+            if (!(failure instanceof Interrupted)) throw failure;
+            return { reason: "pause", what: "a pause at {}" };
         }
     }
 }

@@ -148,7 +148,7 @@ test("a breakpoint is moved to a line that makes a word, and set by label and by
     );
 });
 
-test("a run goes back to the last breakpoint, and then to the first step that is kept", async () => {
+test("a run goes back to the last breakpoint, and then to the first order", async () => {
     const client = clientOf();
     const [point] = await client.launched({ program: "/loop" }, [{ line: 3 }]);
     await client.event("stopped");
@@ -162,7 +162,7 @@ test("a run goes back to the last breakpoint, and then to the first step that is
     for (const command of ["reverseContinue", "stepBack"]) {
         await client.asks(command);
         const { reason, description } = await client.event("stopped");
-        assert.deepEqual([reason, description], ["entry", "the end of the way back, at 0000 start: no order before it is kept"], command);
+        assert.deepEqual([reason, description], ["entry", "the end of the way back, at 0000 start: the program begins here"], command);
     }
 });
 

@@ -63,7 +63,7 @@ test("what can be gone back over is counted in orders, and its end is no refusal
     }
     for (const command of ["stepBack", "reverseContinue"]) {
         await client.asks(command);
-        assert.match(await stopped(client), /^the end of the way back, at \d{4}( start)?: no order before it is kept$/);
+        assert.match(await stopped(client), /^the end of the way back, at \d{4}( start)?: the program begins here$/);
     }
     assert.equal((await client.scope("Kept steps")).of("kept").value, "0");
     await client.asks("evaluate", { expression: "press manual\nput 0100 z", context: "repl" });

@@ -47,8 +47,8 @@ export interface Requests {
     next(given: P.NextArguments): void;
     stepIn(given: P.StepInArguments): void;
     stepOut(given: P.StepOutArguments): void;
-    stepBack(given: P.StepBackArguments): void;
-    reverseContinue(given: P.ReverseContinueArguments): void;
+    stepBack(given: P.StepBackArguments, order: number): Promise<void>;
+    reverseContinue(given: P.ReverseContinueArguments, order: number): Promise<void>;
     pause(given: P.PauseArguments): void;
     gotoTargets(given: P.GotoTargetsArguments): Answer<P.GotoTargetsResponse>;
     goto(given: P.GotoArguments): void;
