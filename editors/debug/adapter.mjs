@@ -340,10 +340,8 @@ export class DebugAdapter {
             stepOut: () => {
                 throw new Refused("this machine has no calls to step out of: set a breakpoint where the routine returns to");
             },
-            stepBack: async (given, order) => stopping(await this.#goneBack(order, (isInterrupted) => this.#runner.stepBack(isInterrupted))),
-            reverseContinue: async (given, order) => (
-                stopping(await this.#goneBack(order, (isInterrupted) => this.#runner.runBack(isInterrupted)))
-            ),
+            stepBack: (given, order) => this.#goneBack(order, (isInterrupted) => this.#runner.stepBack(isInterrupted)).then(stopping),
+            reverseContinue: (given, order) => this.#goneBack(order, (isInterrupted) => this.#runner.runBack(isInterrupted)).then(stopping),
             pause: () => this.#runner.pause(),
             gotoTargets: async ({ source, line }) => {
                 const isOwn = source.path !== undefined && await this.#identityOf(source.path) === this.#program.identity;

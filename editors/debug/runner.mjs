@@ -151,7 +151,9 @@ export class Runner {
     /** Goes back one order. */
     async stepBack(isInterrupted) {
         return this.#goneBack(isInterrupted, async (letOthersGo) => (
-            await this.#machine.stepBack(letOthersGo) ? { reason: "step", what: "a step back to {}" } : { reason: "entry", what: AT_BEGINNING }
+            await this.#machine.stepBack(letOthersGo)
+                ? { reason: "step", what: "a step back to {}" }
+                : { reason: "entry", what: AT_BEGINNING }
         ));
     }
 

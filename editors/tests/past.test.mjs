@@ -8,7 +8,18 @@ import { lastOf, isRefusal, runOf } from "../../libraries/javascript/replies.mjs
 import { Client, openSession } from "./client.mjs";
 import { Chance } from "./random/chance.mjs";
 
-const COUNTS = "start   h flag\n        b count\nloop    a one\n        h count\n        u loop\ncount   int 0 30\none     int 1 30\nflag    int 7 30\n        end start\n";
+const COUNTS = `start   h flag
+        b count
+loop    a one
+        h count
+        u loop
+count   int 0 30
+one     int 1 30
+flag    int 7 30
+        end start
+`;
+/** What brings a loop that counts into a machine and starts it. */
+const BEGUN = ["put 0000 b 0010", "put 0001 a 0011", "put 0002 h 0010", "put 0003 u 0000", "put 0011 = 1", "press start"];
 const stopped = async (client) => (await client.event("stopped")).description;
 const valueOf = async (client, expression) => (await client.asks("evaluate", { expression, context: "watch" })).result;
 const types = async (client, expression) => {
@@ -109,7 +120,7 @@ function played(chance) {
         const reply = does(line);
         if (!isRefusal(reply)) way.length -= ordersOf(reply);
     };
-    for (const line of ["put 0000 b 0010", "put 0001 a 0011", "put 0002 h 0010", "put 0003 u 0000", "put 0011 = 1", "press start"]) does(line);
+    BEGUN.forEach(does);
     for (let deed = 0; deed < 30; deed += 1) chance.of([
         () => runs(chance.below(20)), () => runs(chance.below(3000)), () => runs(chance.below(6)),
         () => { const orders = chance.below(9); goesBack(`back ${orders}`, () => orders); },
@@ -128,7 +139,7 @@ test("each moment that is come back to is the one of the proved session", async 
     for (let round = 0; round < 8; round += 1) {
         const { session, lines, way } = played(chance);
         const past = new Past(openSession, async () => {});
-        await past.follow(linesIn(session.answer("transcript")), 6);
+        await past.follow(linesIn(session.answer("transcript")), BEGUN.length);
         assert.equal(past.orders, way.length);
         for (let moment = 0; moment < 20 && way.length > 0; moment += 1) {
             const order = chance.below(way.length);
