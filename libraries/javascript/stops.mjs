@@ -36,11 +36,19 @@ async function ruleLines(ask, command, reply) {
     return [`rule ${number}: ${rule.get("kind")} ${placeOf(rule)}${change}`];
 }
 
+/** What goes farther back than the orders that are kept; nothing where no others were performed. */
+async function fartherBack(ask, reply) {
+    const kept = /^\? (?:7 TooFar|8 NoHit) (\d+):/.exec(reply)?.[1];
+    if (kept === undefined || isRefusal(await ask(`at ${Number(kept) + 1} panel-data`))) return [];
+    return ["earlier orders are not kept: to NUMBER goes to the beginning of any order of this session, in a session of its own"];
+}
+
 /** What is said below a reply. */
 export async function saidOfStop(ask, command, reply, standstill) {
     if (command === "run" && reply.startsWith("ran 0 rest\n")) return [await standstill()];
     const isWithoutRules = command === "last" && reply.startsWith("? 8 ") && (await ask("json rules-data")) === "";
     if (isWithoutRules) return ["there are no rules: break and watch add one"];
+    if (command === "back" || command === "last" && isRefusal(reply)) return fartherBack(ask, reply);
     if (command === "load" && !isRefusal(reply)) return loadedLines(ask);
     return ruleLines(ask, command, reply);
 }

@@ -110,11 +110,26 @@ def why_nothing_is_done():
         assert shown.endswith(f"ran 0 rest\n        the operator halted the machine, or has not started it: press start to continue\n{BEGUN}"), shown
     shown = terminal.type("last\r", BEGUN)
     assert "        there are no rules: break and watch add one\n" in shown, shown
+    shown = terminal.type("b 5\r", BEGUN)
+    assert shown.endswith(f"? 7 TooFar 0: only this many orders are kept\n{BEGUN}"), shown
     terminal.type("source\rfoo z\r end\r.\r", BEGUN)
     shown = terminal.type("load\r", "stop> ")
     assert "loaded 23\n        the source has no start: go with an address or a label starts it\n" in shown, shown
     shown = terminal.type("go foo\r", "going> ")
     assert "started: 0000 going\n" in shown, shown
+    left(terminal)
+
+
+def what_goes_farther_back_is_told():
+    terminal = begun()
+    for line in ("put 0000 u 0000", "go 0000", "run 5000", "break 0001"):
+        terminal.type(f"{line}\r", "> ")
+    told = "        earlier orders are not kept: to NUMBER goes to the beginning of any order of this session, in a session of its own\n"
+    for line, refused in (("b 4097", "? 7 TooFar 4096: only this many orders are kept\n"),
+                          ("last", "? 8 NoHit 4096: this many orders are kept, and no rule hits any of them\n")):
+        shown = terminal.type(f"{line}\r", "going> ")
+        assert refused + told in shown, shown
+    assert told not in terminal.type("b 4096\r", "going> ")
     left(terminal)
 
 
@@ -289,5 +304,5 @@ def files_that_are_replaced():
     left(terminal)
 
 
-CHECKS = [what_is_pasted_is_text, a_stop_is_told, a_run_ends_where_a_condition_is_met, why_nothing_is_done, own_lines_are_refused_by_their_forms, words_that_are_displayed_and_changed, short_names, a_source_that_is_edited,
+CHECKS = [what_is_pasted_is_text, a_stop_is_told, a_run_ends_where_a_condition_is_met, why_nothing_is_done, what_goes_farther_back_is_told, own_lines_are_refused_by_their_forms, words_that_are_displayed_and_changed, short_names, a_source_that_is_edited,
           a_source_that_is_edited_by_lines, what_is_completed_besides, files_that_are_replaced]
