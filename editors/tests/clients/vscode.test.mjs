@@ -9,6 +9,7 @@ import { join } from "node:path";
 import { after, test } from "node:test";
 import { fileURLToPath } from "node:url";
 import { createContext, runInContext } from "node:vm";
+import { Client } from "../client.mjs";
 import { StandInEditor, Uri } from "../stand_in_editor.mjs";
 
 const editors = fileURLToPath(new URL("../..", import.meta.url));
@@ -261,6 +262,32 @@ test("the package is one that a marketplace takes: icon, picture, changelog, key
         readFileSync(join(folder, "extension.vsixmanifest"), "utf8"),
         /<Tags>[^<]*__ext_lgp30,__web_extension<\/Tags>[^]*ExtensionKind" Value="ui,workspace,web"[^]*<Icon>extension\/icon.png/
     );
+});
+
+test("each word and link of the package's README is so", { skip }, async () => {
+    execFileSync(join(editors, "../tools/packed_documents"), ["--check", extension]);
+    const readme = textOf("README.md");
+    const { commands: [command], configuration, debuggers, languages: [language] } = JSON.parse(textOf("package.json")).contributes;
+    const { properties } = debuggers[0].configurationAttributes.launch;
+    assert.deepEqual(Array.from(readme.matchAll(/^\| `(\w+)` \|/gm), ([, field]) => field), Object.keys(properties));
+    const source = /^ {4}; .*\n(?: {4}.*\n)+/m.exec(readme)[0].replace(/^ {4}/gm, "").replace(/^ +end first/m, "half frac .5\n end first");
+    const [, list] = /A breakpoint may have a condition, such as (.*?)\. The console/.exec(readme);
+    const conditions = list.match(/(?<=`)[^`]+(?=`(?:,| or|$))/g);
+    const line = /console takes the lines of Condugwa's monitor, such as `([^`]+)`/.exec(readme)[1];
+    const words = new Set([
+        ...language.extensions, ...language.aliases, ...Object.keys(configuration.properties), ...Object.keys(properties),
+        ...properties.how.enum, ...Object.values(properties.switches.properties).flatMap((it) => it.enum), ...conditions, line, "p",
+        "z",
+    ]);
+    for (const [, word] of readme.matchAll(/`([^`\n]+)`/g)) assert.ok(words.has(word), word);
+    assert.ok(readme.includes(`"${command.category}: ${command.title}"`));
+    assert.match(source.split("\n")[0], new RegExp(language.firstLine));
+    const client = new Client({ "/shown": source });
+    const points = await client.launched({ program: "/shown", stopOnEntry: true }, conditions.map((condition) => ({ line: 5, condition })));
+    assert.deepEqual(points.map(({ verified, message }) => [verified, message]), conditions.map(() => [true, undefined]));
+    assert.equal((await client.event("stopped")).reason, "entry");
+    assert.equal(typeof (await client.asks("evaluate", { expression: line, context: "repl" })).result, "string");
+    await client.refused("evaluate", { expression: "save drum", context: "repl" });
 });
 
 test("editors/build tells what it makes, and makes the names that settings have", { skip }, () => {

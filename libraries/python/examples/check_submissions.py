@@ -6,7 +6,8 @@
 Each file `*.source` in FOLDER is assembled, loaded and started; before the start the words of --put are put on the drum, and at the rest those of
 --want have to be there. A line for each file, in the order of their names, says whether it is right, with its word times. Without --scheduler
 two workers on this computer do it, or as many as --workers says; with `--workers 0` this process does it alone. All give the same lines. Progress
-is told on standard error. Where a worker ends before its time its part is done again by another one.
+is told on standard error. The submissions go to the workers in parts, since sending one takes longer than checking it. Where a worker ends
+before its time its part is done again by another one.
 """
 
 import argparse
@@ -16,6 +17,9 @@ import sys
 import typing
 
 import condugwa
+
+MOST_IN_A_PART = 100
+FEWEST_PARTS = 8
 
 
 @dataclasses.dataclass(frozen=True)
@@ -51,16 +55,29 @@ def verdict_of(source: str, assignment: Assignment) -> str:
         return f"right, {laboratory.panel().clock - begun} word times"
 
 
+def parts_of(sources: "list[str]") -> "list[list[str]]":
+    """The sources in parts, of which each is one task: large ones, and yet some for each worker."""
+    size = max(1, min(MOST_IN_A_PART, len(sources) // FEWEST_PARTS))
+    return [sources[at : at + size] for at in range(0, len(sources), size)]
+
+
+def verdicts_of(sources: "list[str]", assignment: Assignment) -> "list[str]":
+    """What is to be said of each submission of a part."""
+    return [verdict_of(source, assignment) for source in sources]
+
+
 def verdicts_by(cluster: typing.Any, sources: "list[str]", assignment: Assignment) -> "list[str]":
     """The verdicts, in the order of the sources, by the workers of a cluster."""
     from distributed import Client, as_completed
 
     with Client(cluster) as client:
-        futures = client.map(verdict_of, sources, assignment=assignment, retries=2, pure=False)
-        for done, _ in enumerate(as_completed(futures), 1):
-            print(f"\r{done} of {len(sources)} checked", end="", file=sys.stderr, flush=True)
+        futures = client.map(verdicts_of, parts_of(sources), assignment=assignment, retries=2, pure=False)
+        checked = 0
+        for _, told in as_completed(futures, with_results=True):
+            checked += len(told)
+            print(f"\r{checked} of {len(sources)} checked", end="", file=sys.stderr, flush=True)
         print(file=sys.stderr)
-        return list(client.gather(futures))
+        return [verdict for part in client.gather(futures) for verdict in part]
 
 
 def verdicts(sources: "list[str]", assignment: Assignment, workers: int, scheduler: "str | None") -> "list[str]":
@@ -68,7 +85,7 @@ def verdicts(sources: "list[str]", assignment: Assignment, workers: int, schedul
     if scheduler is not None:
         return verdicts_by(scheduler, sources, assignment)
     if workers == 0:
-        return [verdict_of(source, assignment) for source in sources]
+        return verdicts_of(sources, assignment)
     from distributed import LocalCluster
 
     with LocalCluster(n_workers=workers, threads_per_worker=1, dashboard_address=None) as cluster:
