@@ -563,7 +563,15 @@ export class Controller extends EventTarget {
     /** Does lines one after another, as a button does: none of them is meant for a source. What is pressed while a run goes on is done between two of its portions. */
     command(...lines) {
         if (this.#between === null || !lines.every((line) => commandIn(line) === "press")) return this.#action(() => this.#sayAll(lines));
-        return new Promise((resolve) => { this.#between.push({ lines, resolve }); });
+        return new Promise((resolve) => {
+            this.#between.push({ lines, resolve });
+            this.dispatchEvent(new Event("change"));
+        });
+    }
+
+    /** The lines of what was pressed since the last portion of a run, which are done after the one that is under way. */
+    get awaited() {
+        return (this.#between ?? []).flatMap(({ lines }) => lines);
     }
 
     /** Does what was pressed since the last portion. */

@@ -679,6 +679,23 @@ live("what is pressed while a run goes on is done between two of its portions, a
     assert.match(laboratory.lines.join("\n"), /run \d+\nrun \d+\npress bp32 down\nrun \d+\nrun \d+\npress manual\nrun \d+$/);
 });
 
+live("what is pressed while a run goes on is told at once as awaited, until it is done", async (laboratory, link) => {
+    await laboratory.say("put 0000 u 0000", "press start");
+    const [ask, told] = [link.ask.bind(link), []];
+    const note = () => told.push([laboratory.awaited.join(), laboratory.panel.down.bp32]);
+    let portions = 0;
+    link.ask = (line) => {
+        portions += line.startsWith("run ") ? 1 : 0;
+        if (line.startsWith("run ") && portions === 2) {
+            laboratory.addEventListener("change", note);
+            laboratory.command("press bp32 down").then(() => laboratory.removeEventListener("change", note)).then(note).then(() => laboratory.command("press manual"));
+        }
+        return ask(line);
+    };
+    await laboratory.run(100_000_000);
+    assert.deepEqual([told[0], told.at(-1), laboratory.awaited], [["press bp32 down", false], ["", true], []]);
+});
+
 live("a run to the next print ends soon after it; where nothing is printed it says so", async (laboratory) => {
     await laboratory.say("put 0000 b 0050", "put 0001 p 4600", "put 0002 u 0001", "put 0050 = 3", "press start");
     assert.deepEqual([await laboratory.runToPrint(1000), laboratory.printed.count > 0, laboratory.performed <= 100], [true, true, true]);

@@ -48,6 +48,8 @@ export function makeConsole(laboratory, { text, table }) {
             if (name in table.modes) control.setAttribute("aria-pressed", String(panel.mode === name));
         }
         for (const control of switches) control.setAttribute("aria-checked", String(panel.down[control.dataset.name]));
+        const awaited = new Set(laboratory.awaited.map((line) => line.split(" ")[1]));
+        for (const control of [...buttons, ...switches]) control.setAttribute("aria-busy", String(awaited.has(control.dataset.name)));
     };
     const group = (name, controls) => h("div", { class: `controls ${name}`, role: "group", "aria-label": text(name) }, ...controls);
     return { node: part("console", text("console"), group("buttons", buttons.slice(0, FIRST_ROW)), h("div", { class: "second-row" }, group("switches", switches), group("inputs", buttons.slice(FIRST_ROW)))), show };

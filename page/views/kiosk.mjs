@@ -46,7 +46,7 @@ function waitedIn({ accounts, history: { behind, forgotten } }) {
 }
 
 /** What is told at the end of the story: what the machine did, and a question. */
-function endText(laboratory, texts, exhibit) {
+export function endText(laboratory, texts, exhibit) {
     const { text, code } = texts;
     const { history: { behind, forgotten }, panel, begunAt, printed, way } = laboratory;
     if (way.kind === "keys") return text("kioskKeys");
