@@ -83,7 +83,8 @@ async function pulledUp(browser, address) {
     for (const [width, height] of [[1366, 768], [1920, 1080], [1024, 768], [390, 844]]) {
         await browser.size(width, height);
         await laidOut(browser);
-        assert.deepEqual([await hiddenTexts(browser), await browser.value("document.documentElement.scrollWidth <= innerWidth")], [[], true], `at ${width} by ${height}`);
+        const thumbs = await browser.value("[...document.querySelectorAll('.thumb:not([hidden])')].filter((it) => { const [thumb, paper] = [it, document.querySelector('.pulled-up')].map((box) => box.getBoundingClientRect()); return thumb.left > paper.left && thumb.right < paper.right && thumb.top < document.querySelector('.piece-right .piece-rows').getBoundingClientRect().top; }).length");
+        assert.deepEqual([await hiddenTexts(browser), await unhit(browser), thumbs, await browser.value("document.documentElement.scrollWidth <= innerWidth")], [[], [], 0, true], `at ${width} by ${height}`);
         assert.equal(await browser.value("(({ offsetWidth, clientWidth }) => offsetWidth - clientWidth)(document.querySelector('.piece-right .piece-rows'))"), 0);
     }
     await browser.size(1500, 1250);

@@ -27,7 +27,7 @@ function makeThumb(box) {
     for (const kind of ["pointerup", "pointercancel"]) node.addEventListener(kind, () => { held = null; });
     const place = (isOpen) => {
         const { frame, seen, all } = lengthsOf(box);
-        const isThere = isOpen && seen >= 2 * LEAST && all > seen + 1 && box.checkVisibility();
+        const isThere = isOpen && seen >= 2 * LEAST && all > seen + 1 && box.checkVisibility({ visibilityProperty: true });
         node.hidden = !isThere;
         if (!isThere) return;
         const { top, right } = frame.getBoundingClientRect();
