@@ -28,7 +28,7 @@ function laboratoryOf(more = {}) {
     return {
         asked, panel, live: new Set(["start"]), way: { kind: "start" }, history: { behind: 0, typed: [] }, orderInRegister: "u 0012",
         struck: null, printed: { count: 0, text: "" }, openSource: null, loaded: null, loading: null, rows: [], profile: null,
-        script: null, talk: [], usesWord: (letter) => letter !== "u", ...actions, ...more,
+        script: null, talk: [], awaited: [], usesWord: (letter) => letter !== "u", ...actions, ...more,
     };
 }
 
