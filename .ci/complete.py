@@ -39,6 +39,7 @@ PARTS = {
         "pkg-config": r"pkg-config --cflags --libs lgp30",
         "many scripts at once": r"^## Many at once",
         "more than one computer": r"check_submissions\.py",
+        "how long a cluster takes, and when that was measured": r"^On [\d-]{10}, .* short submissions took [\d.]+ .* and [\d.]+ by two",
         "a machine in a page": r"<lgp-machine src=",
     },
     "CONTRIBUTING.md": {

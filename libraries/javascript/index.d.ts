@@ -82,7 +82,7 @@ export interface Rule {
     label: string | null;
 }
 
-/** What put a word where it is; its order is null where that was a hand, and `at` is null also where the order was in the register. */
+/** What put a word where it is; its order is null where that was a hand, and `at` is null, too, where the order was in the register. */
 export interface PutThere {
     order: string | null;
     at: string | null;
@@ -100,7 +100,7 @@ export interface Gain {
     saved: number;
 }
 
-/** The words of a run with most to gain, by whether they may be moved. */
+/** The words of a run whose relocation would save most, by whether they may be moved. */
 export interface Optimum {
     orders: number;
     times: number;
@@ -199,7 +199,7 @@ export class Laboratory {
     /** That module, compiled once. */
     static module(): Promise<WebAssembly.Module>;
     /**
-     * The reply to a line, with a line feed after each of its lines; the empty text where the line has none. Bytes of a reply that are no UTF-8
+     * The reply to a line, with a line feed after each of its lines; the empty text where the line has none. Bytes of a reply that are not UTF-8
      * are each the sign U+FFFD. Throws RangeError where the line has a line feed.
      */
     answer(line: string | Uint8Array): string;

@@ -1,4 +1,4 @@
-// A desk for programs in node: the monitor as its program has it, whose lines may name files.
+// A desk for programs in node: it behaves like lgp_monitor, and its lines may name files.
 import { Desk as FileDesk } from "./desk.mjs";
 import { Laboratory } from "./laboratory.mjs";
 import { Session, textOf } from "./session.mjs";

@@ -333,7 +333,7 @@ export function stateOf(reply) {
 
 const FREEDOMS = { free: "free", performed: "performed", changed: "namedByChanged" };
 
-/** The words of a run with most to gain, of the records of `optimum-data NUMBER`, by whether they may be moved. */
+/** The words of a run whose relocation would save most, of the records of `optimum-data NUMBER`, by whether they may be moved. */
 export function optimumOf([whole, ...words]) {
     if (whole === undefined) throw misread("optimum", "");
     const gains = { free: [], performed: [], namedByChanged: [] };

@@ -4,7 +4,7 @@
     >>> condugwa.run_script("put 0050 00000006\\nwords 0050 1\\n").text
     'ok\\n0050 00000006\\n'
 
-Commands and replies are those of docs/FORMATS.md. Bytes that are no UTF-8 text stand in a `str` as Python's
+Commands and replies are those of docs/FORMATS.md. Bytes that are not UTF-8 text stand in a `str` as Python's
 "surrogateescape" has them, so that nothing is lost in either direction.
 """
 

@@ -1,4 +1,4 @@
-"""The monitor as its program has it: lines that may name files, and what is written for each."""
+"""A desk behaves like lgp_monitor: its lines may name files, and what would be written for each is returned."""
 
 import os
 import pathlib

@@ -134,7 +134,7 @@ class Laboratory:
     def put(self, address: str, word: WordLike, point: int = 30) -> None:
         """Puts a word at an address: a text of digits or an order, a whole number with its point after a bit, or a fraction.
 
-        Raises TypeError and ValueError for what is no word, and MovingError while the machine is going.
+        Raises TypeError and ValueError for what is not a word, and MovingError while the machine is going.
         """
         if isinstance(word, str) and not isinstance(word, Word):
             # an order may name a label of this laboratory

@@ -28,7 +28,7 @@ class Gain:
 
 @dataclasses.dataclass(frozen=True)
 class Optimum:
-    """The words of a run with most to gain, of each kind at most ten, those with most first."""
+    """The words of a run whose relocation would save most, of each kind at most ten, those that save most first."""
 
     orders: int
     times: int
@@ -76,7 +76,7 @@ def _gain(record: Record) -> Gain:
 
 
 def optimum_of(lines: "list[str]") -> Optimum:
-    """What lines tell of the words of a run. Raises ValueError where they tell none of it."""
+    """What lines say about the words of a run. Raises ValueError where they say nothing about them."""
     records = records_of(lines)
     if not records:
         raise ValueError("no optimum: no line")
@@ -98,7 +98,7 @@ def optimum_of(lines: "list[str]") -> Optimum:
 
 
 def word_optimum_of(lines: "list[str]") -> WordOptimum:
-    """What lines tell of one word. Raises ValueError where they tell none of it."""
+    """What lines say about one word. Raises ValueError where they say nothing about it."""
     records = records_of(lines)
     if len(records) != 1:
         raise ValueError(f"no optimum of a word: {len(records)} records")

@@ -40,7 +40,7 @@ class Profile:
     """Those of orders that were not at an address."""
 
     places: "tuple[Place, ...]"
-    """The places with most word times, at most ten, the dearest first."""
+    """The places with most word times, at most ten, the slowest first."""
 
 
 def _place(record: Record) -> Place:

@@ -1,4 +1,4 @@
-"""The programs lgp_lab and lgp_monitor, as pip installs them: the native ones where the package has them, otherwise the proved module, by node.
+"""The programs lgp_lab and lgp_monitor, as pip installs them: the native ones where the package has them, otherwise the proved module, in node.
 
 At a terminal node edits the lines of lgp_monitor, so there it is taken first.
 """

@@ -47,7 +47,7 @@ class Word(str):
     __slots__ = ()
 
     def __new__(cls, digits: str) -> "Word":
-        """Raises TypeError where it is no text, and ValueError where it is not eight digits."""
+        """Raises TypeError where it is not a text, and ValueError where it is not eight digits."""
         if not isinstance(digits, str):
             raise TypeError(f"a word is a text of eight digits, and not {digits!r}; Word.of_number takes numbers, and Word.of_fraction fractions")
         if len(digits) != _BITS // 4 or any(digit not in _DIGITS for digit in digits):
