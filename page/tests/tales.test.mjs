@@ -6,6 +6,7 @@ import { Controller } from "../controller.mjs";
 import { ModuleLink } from "../module_link.mjs";
 import { TALES } from "../views/tales.mjs";
 import { LANGUAGES, textsIn } from "../words.mjs";
+import { signedOf } from "../../libraries/javascript/replies.mjs";
 
 const file = (path) => new URL(`../../${path}`, import.meta.url).pathname;
 const module = file("libraries/javascript/lgp_c_region.wasm");
@@ -40,7 +41,8 @@ test("each address that a caption names is the place or the word of an order tha
             const orders = played.get(name)[at];
             const places = orders.flatMap((account) => [account.at, account.word]);
             if (orders.length === 0) continue;
-            for (const address of namedIn(caption)) assert.ok(places.includes(address), `${name}, caption ${at + 1} in ${code}: ${address} is not of ${places}`);
+            const which = `${name}, caption ${at + 1} in ${code}`;
+            for (const address of namedIn(caption)) assert.ok(places.includes(address), `${which}: ${address} is not of ${places}`);
             named += namedIn(caption).length;
         }
     }
@@ -49,14 +51,16 @@ test("each address that a caption names is the place or the word of an order tha
 
 test("what the captions say of waits, of six turns and of a word that is rewritten, is so of the orders that they play", { skip }, () => {
     const last = (name, caption) => played.get(name)[caption - 1].at(-1);
-    const [around, twice, mostly, rewrites, types, changes] = [last("wait", 2), last("wait", 3), last("wait", 4), last("rewrite", 4), last("type", 3), last("type", 4)];
-    for (const [code, words] of [["en", /nearly three quarters/], ["de", /fast drei Viertel/]]) assert.match(textsIn(code).table.tales.wait.captions[1], words);
+    const [around, twice, mostly] = [2, 3, 4].map((caption) => last("wait", caption));
+    const [rewrites, types, changes] = [last("rewrite", 4), last("type", 3), last("type", 4)];
+    const told = { en: /nearly three quarters/, de: /fast drei Viertel/ };
+    for (const [code, words] of Object.entries(told)) assert.match(textsIn(code).table.tales.wait.captions[1], words);
     assert.ok(around.find > 0.7 * 64 && around.find < 0.75 * 64, "nearly three quarters of the way round");
     assert.ok(twice.find > 1 && twice.seek > 1, "waits twice");
     assert.ok((mostly.find + mostly.seek - 2) / mostly.sum > 0.8, "nearly all of it is waiting");
-    const [before, after] = [rewrites.stored.before.digits, rewrites.stored.after.digits].map((digits) => parseInt(digits.replace(/[fgjkqw]/g, (sign) => "abcdef"["fgjkqw".indexOf(sign)]), 16));
-    assert.equal(after - before, 4, "the next address");
+    assert.equal(signedOf(rewrites.stored.after.digits) - signedOf(rewrites.stored.before.digits), 4, "the next address");
     assert.deepEqual([Math.floor(types.act / 64), types.printed.code], [6, 46], "six turns for one character");
     const again = changes.stored.address;
-    assert.ok(again !== last("type", 2).stored.address && played.get("type").flat().some(({ at }) => at === again), "another of its own orders");
+    const isOrder = played.get("type").flat().some(({ at }) => at === again);
+    assert.ok(isOrder && again !== last("type", 2).stored.address, "another of its own orders");
 });
