@@ -50,7 +50,7 @@ const en = {
     talesName: "Stories", chooseTale: "Choose a story.", captionBack: "Back", captionNext: "Next", nextTale: "Next story", captionAt: "{at} of {of}",
     tales: {
         wait: { title: "Why does it wait?", captions: {
-            0: "The drum turns, and the head stands still. Whatever the head needs has to come past: first an order, then its word.", 1: "The next order is at 0001. It has just gone past, so the drum has to turn nearly all the way round: watch the orange line count down.",
+            0: "The drum turns, and the head stands still. Whatever the head needs has to come past: first an order, then its word.", 1: "The next order is at 0001. It has already gone past, so the drum has to turn nearly three quarters of the way round: watch the orange line count down.",
             2: "This order names a word, at 0020. So the machine waits twice: orange until the order comes, blue until its word does.", 3: "Four colours, four phases: find, take, seek, act. Nearly all of it is waiting.",
             4: "That is why the sectors do not follow one another, but pass as 00, 57, 50: neighbours lie nine places apart, time enough to fetch a word between them." } },
         rewrite: { title: "An order that changes", captions: {
@@ -270,7 +270,7 @@ const de = {
     talesName: "Geschichten", chooseTale: "Wähle eine Geschichte.", captionBack: "Zurück", captionNext: "Weiter", nextTale: "Nächste Geschichte", captionAt: "{at} von {of}",
     tales: {
         wait: { title: "Warum wartet er?", captions: {
-            0: "Die Trommel dreht sich, und der Kopf steht still. Was der Kopf braucht, muss vorbeikommen: erst ein Befehl, dann sein Wort.", 1: "Der nächste Befehl liegt auf 0001. Er ist schon vorbei, also muss sich die Trommel fast einmal herumdrehen: Zähle an der orangen Linie mit.",
+            0: "Die Trommel dreht sich, und der Kopf steht still. Was der Kopf braucht, muss vorbeikommen: erst ein Befehl, dann sein Wort.", 1: "Der nächste Befehl liegt auf 0001. Er ist schon vorbei, also muss sich die Trommel um fast drei Viertel weiterdrehen: Zähle an der orangen Linie mit.",
             2: "Dieser Befehl nennt ein Wort, auf 0020. Also wartet die Maschine zweimal: orange, bis der Befehl kommt, und blau, bis sein Wort kommt.", 3: "Vier Farben, vier Phasen: finden, holen, suchen, ausführen. Fast alles davon ist Warten.",
             4: "Darum folgen die Sektoren nicht aufeinander, sondern kommen als 00, 57, 50 vorbei: Nachbarn liegen neun Plätze auseinander, Zeit genug, dazwischen ein Wort zu holen." } },
         rewrite: { title: "Ein Befehl ändert sich", captions: {
