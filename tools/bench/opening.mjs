@@ -1,6 +1,7 @@
-// How long unpacking the page takes in node, in processor time, the best of some turns. How long the page takes to open in Chromium, from the beginning
-// of its navigation: until something is painted, until its door can be used, and what of that is unpacking, the median of some openings; other work on
-// the machine makes these times longer. And how much memory the kiosk holds after some rounds of an exhibit, and after many more. No part of the check.
+// How long unpacking the page takes in node, in processor time, the best of some turns. How long the page takes to open in Chromium, from the
+// beginning of its navigation: until something is painted, until its door can be used, and what of that is unpacking, the median of some openings;
+// other work on the machine makes these times longer. And how much memory the kiosk holds after some rounds of an exhibit, and after many more.
+// No part of the check.
 //
 //     node tools/bench/opening.mjs [page/laboratory.html]
 import { readFileSync } from "node:fs";
@@ -13,7 +14,10 @@ const top = join(dirname(fileURLToPath(import.meta.url)), "../..");
 const file = resolve(process.argv[2] ?? join(top, "page/laboratory.html"));
 const address = pathToFileURL(file).href;
 const [OPENINGS, ROUNDS, TURNS] = [7, 60, 12];
-const DOORS = [["the hall", "?lang=en"], ["Look", "?lang=en&door=look"], ["Learn", "?lang=en&door=learn"], ["Work", "?lang=en&door=work"], ["the kiosk", "?lang=en#kiosk=weather"]];
+const DOORS = [
+    ["the hall", "?lang=en"], ["Look", "?lang=en&door=look"], ["Learn", "?lang=en&door=learn"], ["Work", "?lang=en&door=work"],
+    ["the kiosk", "?lang=en#kiosk=weather"],
+];
 
 /** Runs in the page before its scripts: notes how long each unpacking takes, and when the page says that it can be used. */
 function noteTimes() {
@@ -26,7 +30,8 @@ function noteTimes() {
         return bytes;
     };
     Object.defineProperty(globalThis, "unpackedText", { get: () => timed, set: (it) => { unpack = it; } });
-    new MutationObserver(() => { if (document.documentElement?.dataset.ready === "true") globalThis.usable ??= performance.now(); }).observe(document, { attributes: true, subtree: true });
+    const look = () => { if (document.documentElement?.dataset.ready === "true") globalThis.usable ??= performance.now(); };
+    new MutationObserver(look).observe(document, { attributes: true, subtree: true });
 }
 
 const median = (numbers) => numbers.sort((one, other) => one - other)[numbers.length >> 1];
@@ -51,7 +56,12 @@ async function heapOf(browser) {
 /** The heap after some rounds of a visitor who types row 1000 again, hurries to its end and goes back to the start, and after many more. */
 async function heapOfKiosk(browser) {
     await browser.open(`${address}?lang=en&idle=900#kiosk=weather`);
-    const round = async () => { for (const key of ["2", "2", "3", "3", "4"]) await browser.value(`(async () => { document.body.dispatchEvent(new KeyboardEvent("keydown", { key: "${key}", bubbles: true })); await new Promise((resolve) => setTimeout(resolve, 400)); })()`); };
+    const round = () => browser.value(`(async () => {
+        for (const key of ["2", "2", "3", "3", "4"]) {
+            document.body.dispatchEvent(new KeyboardEvent("keydown", { key, bubbles: true }));
+            await new Promise((resolve) => setTimeout(resolve, 400));
+        }
+    })()`);
     const heaps = [];
     for (const rounds of [ROUNDS / 6, ROUNDS]) {
         for (let done = 0; done < rounds; done += 1) await round();
@@ -68,7 +78,8 @@ function unpackedIn(text) {
 }
 
 for (const [, name, text] of readFileSync(file, "utf8").matchAll(/id="(parts|texts|module)">(\d+ [^<]+)</g)) {
-    console.log(`${name}: unpacked in ${Math.round(Math.min(...Array.from({ length: TURNS }, () => unpackedIn(text))))} ms of processor time`);
+    const best = Math.min(...Array.from({ length: TURNS }, () => unpackedIn(text)));
+    console.log(`${name}: unpacked in ${Math.round(best)} ms of processor time`);
 }
 const browser = await Chromium.start(1366, 768);
 await browser.preload(`(${noteTimes})()`);
