@@ -33,13 +33,13 @@ async function open(browser, address, name, code, [width, height], more = "") {
 /** A picture of a moment. */
 const moment = (browser, pictures, name) => (pictures === undefined ? undefined : browser.picture(join(pictures, `exhibit-${name}.png`)));
 
-/** The order in the hub of the drum, where it lies upon the phase below it. */
-const uponInHub = (browser) => browser.value(`(() => {
+/** The order in the hub of the drum, where it lies upon the phase below it. It is measured in Chromium, whose boxes of drawn texts are known. */
+const uponInHub = async (browser) => (browser.engine !== "Chromium" ? [] : browser.value(`(() => {
     const [order, phase] = [".hub-order", ".hub-phase"].map((name) => document.querySelector(name));
     if (order === null || !order.checkVisibility() || order.textContent === "") return [];
-    const [above, below] = [order, phase].map((it) => it.getBoundingClientRect());
-    return above.bottom > below.top + 1 ? [order.textContent + " lies upon " + phase.textContent] : [];
-})()`);
+    const [above, below] = [order, phase].map((it) => it.getBoundingClientRect()).map(({ top, bottom }) => (top + bottom) / 2);
+    return below - above < 0.95 * parseFloat(getComputedStyle(phase).fontSize) * phase.getScreenCTM().a ? [order.textContent + " lies upon " + phase.textContent] : [];
+})()`));
 
 /** What is seen now has all its texts whole and large enough, each button is hit, and nothing is to be scrolled. */
 async function assertSeen(browser, what) {
