@@ -1,7 +1,7 @@
 // docs/EXHIBITS.md: its smallest exhibit is right, its commands write what it shows, its sentence is that of the check, and it names each field that the reader knows; in German likewise.
 import assert from "node:assert/strict";
 import { spawnSync } from "node:child_process";
-import { existsSync, readFileSync } from "node:fs";
+import { existsSync, readFileSync, readdirSync } from "node:fs";
 import { dirname, join } from "node:path";
 import { test } from "node:test";
 import { fileURLToPath } from "node:url";
@@ -47,6 +47,13 @@ for (const path of DOCUMENTS) {
         assert.deepEqual([...names].filter((name) => !["en", "de"].includes(name) && !new RegExp(`["\`]${name}["\`]`).test(document)), []);
     });
 }
+
+test("each exhibit that was written by following the page is named there, and right", { skip }, () => {
+    const files = readdirSync(join(top, "docs/exhibits"));
+    for (const path of DOCUMENTS) assert.deepEqual(files.filter((file) => !read(path).includes(`exhibits/${file})`)), [], path);
+    const ran = spawnSync("node", ["page/check_exhibit.mjs", ...files.map((file) => `docs/exhibits/${file}`)], { cwd: top, encoding: "utf8" });
+    assert.deepEqual([ran.status, ran.stderr, ran.stdout.replaceAll(/\d+ scenes/g, "N scenes").split("\n").slice(0, -1)], [0, "", files.map((file) => `docs/exhibits/${file}: right, N scenes played`)]);
+});
 
 test("the check refuses what is wrong, a file that is not there, and wrong words", () => {
     const run = (...words) => { const { status, stdout, stderr } = spawnSync("node", ["page/check_exhibit.mjs", ...words], { cwd: top, encoding: "utf8" }); return [status, stdout, stderr]; };

@@ -9,7 +9,7 @@ export const MAIN_VISITS = [
     ["addresses, reloading and going back", ["addresses", "places", "stepsByAddress"]],
     ["files and what is saved", ["saved", "notLost", "taskClass", "teachers"]],
     ["what a browser keeps", ["undo", "tenWorks", "newAfterReload", "languageKept", "taskSources", "kioskKeepsNothing"]],
-    ["keys and the focus", ["byKeys", "focusStays", "oneStopEach", "projectorKeys", "card", "paceRow", "cursorAndEscape"]],
+    ["keys and the focus", ["byKeys", "focusStays", "oneStopEach", "projectorKeys", "card", "paceRow", "cursorAndEscape", "pulledUp"]],
     ["writing and pasting", ["writing", "editing", "pasting"]],
     ["mouse and finger", ["touch", "carried", "turnedByDrag", "drumMap"]],
     ["the kiosk", ["kiosk", "kioskSeen", "kioskLetters", "kioskReturns", "fasterKiosk", "game"]],

@@ -1,7 +1,7 @@
 // Exhibits that run a program, without a browser: the paper is what the example prints, as the files of examples/ have it; each caption comes about when its row is on the paper; and whatever is pressed, nothing breaks.
 // TOUCHES says how many touches each exhibit gets.
 import assert from "node:assert/strict";
-import { existsSync, readFileSync } from "node:fs";
+import { existsSync, readFileSync, readdirSync } from "node:fs";
 import { dirname, join } from "node:path";
 import { test } from "node:test";
 import { fileURLToPath } from "node:url";
@@ -22,6 +22,9 @@ const TOUCHES = Number(process.env.TOUCHES ?? 150);
 const HURRY = Math.max(1, Math.round(TOUCHES / 400));
 const examples = new Map(scriptsBelow(join(top, "examples")));
 const exhibits = exhibitsBelow(join(top, "page/exhibits"), join(top, "examples"));
+/** Those that a museum would have, and all. */
+const museums = Object.fromEntries(readdirSync(join(top, "docs/exhibits")).map((file) => [file.replace(/\.json$/, ""), exhibitIn(readFileSync(join(top, "docs/exhibits", file), "utf8"), (name) => examples.has(name)).exhibit]));
+const all = { ...exhibits, ...museums };
 const settings = { module, scriptOf: (name) => examples.get(name), chance: () => 7 };
 
 /** What the last `printed` of an example's expected replies says, as text: a carriage return is a new line. */
@@ -55,7 +58,7 @@ function comparedCaptions(trial) {
 
 /** An exhibit after presses, each done to its end, and all that it has told, each with the paper at that moment. Each caption has come about when what it speaks of was so. */
 async function after(name, ...presses) {
-    const trial = await trialOf(exhibits[name], settings);
+    const trial = await trialOf(all[name], settings);
     const [told, { come, wrong }] = [[], comparedCaptions(trial)];
     trial.running.addEventListener("change", () => {
         const { running: { told: caption }, laboratory } = trial;
@@ -170,6 +173,23 @@ test("twenty-one: shuffled by 1956 the games are those of the example, and who h
     assert.equal(laboratory.history.typed.map(({ keys }) => keys).at(-1), "7777'");
 });
 
+test("the primes: the sieve stands at each number that a caption speaks of, the row is what the example prints, and the bet is told", { skip }, async () => {
+    const { laboratory, running, told } = await after("primes", 1);
+    assert.deepEqual([running.scene, running.told.when, laboratory.labels.get(laboratory.panel.counter)], ["sieve", "done", ["prime"]]);
+    assert.deepEqual(told.flatMap(({ caption: { place, times = 1 } }) => (place === undefined ? [] : [[place, times]])), [["prime", 1], ["off", 1], ["prime", 2]]);
+    assert.equal(laboratory.printed.text, "2 ");
+    await running.press(2);
+    while (running.isBusy || running.told.bet === undefined) await laboratory.settled();
+    assert.equal(laboratory.printed.text, expectedOf("tables/primes", 1));
+    assert.deepEqual([laboratory.printed.text.split(" ").filter((it) => it.trim() !== "").length, running.told.bet], [25, 2]);
+});
+
+test("a greeting: a switch decides what is typed, and the caption says which", { skip }, async () => {
+    const { laboratory, running, told } = await after("greeting", 1, 1, 2);
+    assert.deepEqual([laboratory.printed.text.trim().split("\n").slice(-2), running.scene], [["good day", "good night"], "switch"]);
+    assertRows(told, 2);
+});
+
 test("a second press while the machine prints brings it to its end, and does no more", { skip }, async () => {
     const { running, laboratory, clocks } = await after("twenty-one", 1, 2);
     const [first, second] = [running.press(1), running.press(1)];
@@ -194,7 +214,7 @@ test("Stop halts a run where it is, and pressed again lets it go on", { skip }, 
 });
 
 test("all scenes of each exhibit are reached and played, and none leads to a refusal", { skip }, async () => {
-    for (const [name, exhibit] of Object.entries(exhibits)) {
+    for (const [name, exhibit] of Object.entries(all)) {
         const { wrong, remarks, scenes } = await played(exhibit, settings);
         assert.deepEqual([wrong, scenes, waysTo(exhibit).size], [[], Object.keys(exhibit.scenes).length, scenes], name);
         assert.deepEqual(remarks.filter((it) => !it.startsWith("scenes.play.")), [], name);

@@ -33,10 +33,18 @@ async function open(browser, address, name, code, [width, height], more = "") {
 /** A picture of a moment. */
 const moment = (browser, pictures, name) => (pictures === undefined ? undefined : browser.picture(join(pictures, `exhibit-${name}.png`)));
 
+/** The order in the hub of the drum, where it lies upon the phase below it. It is measured in Chromium, whose boxes of drawn texts are known. */
+const uponInHub = async (browser) => (browser.engine !== "Chromium" ? [] : browser.value(`(() => {
+    const [order, phase] = [".hub-order", ".hub-phase"].map((name) => document.querySelector(name));
+    if (order === null || !order.checkVisibility() || order.textContent === "") return [];
+    const [above, below] = [order, phase].map((it) => it.getBoundingClientRect()).map(({ top, bottom }) => (top + bottom) / 2);
+    return below - above < 0.95 * parseFloat(getComputedStyle(phase).fontSize) * phase.getScreenCTM().a ? [order.textContent + " lies upon " + phase.textContent] : [];
+})()`));
+
 /** What is seen now has all its texts whole and large enough, each button is hit, and nothing is to be scrolled. */
 async function assertSeen(browser, what) {
     await laidOut(browser);
-    assert.deepEqual([...await hiddenTexts(browser), ...await unhit(browser), ...await smallTexts(browser)], [], what);
+    assert.deepEqual([...await hiddenTexts(browser), ...await unhit(browser), ...await smallTexts(browser), ...await uponInHub(browser)], [], what);
     assert.deepEqual(await browser.value("[document.querySelectorAll('.kiosk-bar button').length, document.documentElement.scrollHeight <= innerHeight, document.querySelectorAll('.kiosk-bar .primary').length <= 1]"), [4, true, true], what);
 }
 
@@ -80,7 +88,8 @@ async function loop(browser, address, press, code, size, pictures) {
     await browser.waitFor(isDone("rounds"), LONG);
     await browser.waitFor(`document.querySelector('.kiosk-told').textContent === ${JSON.stringify(textOf("loop", "rounds", 3, code))}`, LONG);
     assert.equal(await browser.value("document.querySelectorAll('.kiosk-bar .primary').length"), 0);
-    await assertSeen(browser, "rounds");
+    for (const it of [size, [1366, 768]]) { await browser.size(...it); await assertSeen(browser, `rounds at ${it}`); }
+    await browser.size(...size);
     await press(browser, 3);
     await browser.waitFor(`${isIn("carry")} && document.querySelector('.bit.now') !== null`, LONG);
     await press(browser, 2);

@@ -1,5 +1,6 @@
 // Visits of what is small at the page, and was wrong once: what is seen is whole and in its place, what is shown is true, and each control does what it says.
 import assert from "node:assert/strict";
+import { laidOut } from "./seen.mjs";
 
 const settled = (browser) => browser.value("laboratoryOfPage().settled()");
 const textOf = (browser, selector) => browser.value(`document.querySelector(${JSON.stringify(selector)})?.innerText ?? ""`);
@@ -164,6 +165,15 @@ async function forcedColours(browser, address) {
     const colours = await browser.value("[...document.querySelectorAll('.order-bar .piece i')].map((it) => getComputedStyle(it).backgroundColor)");
     assert.ok(new Set(colours).size >= 3 && colours.every((colour) => !/^rgba.*, 0\)$/.test(colour)), colours.join(" "));
     assert.deepEqual(await browser.value("['.piece', '.strip', '.drum-box', '.scope', '.timeline', '.lever i'].filter((it) => getComputedStyle(document.querySelector(it)).forcedColorAdjust !== 'none')"), []);
+    // what is left free at the end of a list, so that no row is cut, has the colour of the ground
+    const free = [];
+    for (const size of [[1366, 768], [1440, 900], [1280, 720]]) {
+        await browser.size(...size);
+        await laidOut(browser);
+        free.push(...await browser.value("(() => { const probe = document.createElement('i'); probe.style.color = 'Canvas'; document.body.append(probe); const { color } = getComputedStyle(probe); probe.remove(); return [...document.querySelectorAll('main [style*=border-bottom]')].map((it) => getComputedStyle(it)).filter((it) => parseFloat(it.borderBottomWidth) > 2).map(({ borderBottomColor }) => borderBottomColor === color); })()"));
+    }
+    assert.deepEqual([free.length > 0, free.filter((it) => !it)], [true, []]);
+    await browser.size(1500, 1250);
     await browser.media({});
     return undefined;
 }

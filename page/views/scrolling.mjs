@@ -67,7 +67,7 @@ export function keepWhole(box, body) {
         const cut = [...body.children].map((row) => row.getBoundingClientRect()).find(({ top, bottom: end }) => top < bottom && end > bottom + 1);
         // an edge has whole pixels: one more would cut the row above it
         const free = cut === undefined ? 0 : Math.floor(bottom - cut.top);
-        if (room > 0 && free < room / 2) box.style.borderBottom = `${free}px solid transparent`;
+        if (room > 0 && free < room / 2) box.style.borderBottom = `${free}px solid var(--unseen, transparent)`;
     };
     new ResizeObserver(set).observe(box, { box: "border-box" });
     box.addEventListener("scroll", set, { passive: true });
