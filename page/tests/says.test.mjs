@@ -34,6 +34,7 @@ test("a test tells what it has found: the sign, or the switch where the order ha
 
 test("a stop tells whether the machine stood still, and a print its sign or its code", () => {
     assert.deepEqual(["halted stop", "going", undefined].map((status) => saysOf(account({ order: "z 0400", status })).kind), ["z", "zPast", "zPast"]);
+    assert.deepEqual([1, 2].map((passed) => saysOf(account({ order: "i 0000", passed })).kind), ["iOne", "i"]);
     assert.deepEqual([{ code: 46, sign: "g" }, { code: 16, sign: null }].map((printed) => (({ kind, values }) => [kind, values.g, values.code])(saysOf(account({ order: "p 4600", printed })))), [["p", "g", 46], ["pCode", "", 16]]);
 });
 

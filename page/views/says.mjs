@@ -20,6 +20,7 @@ function kindOf(account) {
     if (letter === "t") return testOf(account);
     if (letter === "z") return account.status === "halted stop" ? "z" : "zPast";
     if (letter === "p" && account.printed?.sign == null) return "pCode";
+    if (letter === "i" && account.passed === 1) return "iOne";
     return letter;
 }
 
