@@ -15,6 +15,7 @@ import time
 import terminal_kept
 import terminal_long
 import terminal_lines
+import terminal_rlwrap
 from terminal_driver import BEGUN, CTRL_C, CTRL_D, CTRL_R, CTRL_Z, LAUNCHER, MONITOR, NATIVE, PROGRAM, SCRATCH, UP, Terminal, state_folder
 
 
@@ -350,7 +351,7 @@ def stopped_and_continued():
 
 def main():
     checks = [lines_that_are_typed, what_is_completed, an_end, a_line_is_cleared, a_source_is_left, a_long_run_is_stopped, what_is_kept, nothing_can_be_kept, where_the_machine_is,
-              what_was_printed, a_wide_trace, replies_for_people, help_that_teaches, lines_that_are_pasted, colour, a_script_that_is_typed, refusals_of_a_script, stopped_and_continued, *terminal_kept.CHECKS, *terminal_long.CHECKS, *terminal_lines.CHECKS]
+              what_was_printed, a_wide_trace, replies_for_people, help_that_teaches, lines_that_are_pasted, colour, a_script_that_is_typed, refusals_of_a_script, stopped_and_continued, *terminal_kept.CHECKS, *terminal_long.CHECKS, *terminal_lines.CHECKS, *terminal_rlwrap.CHECKS]
     for check in checks:
         if os.environ.get("ONLY", check.__name__) == check.__name__:
             check()
