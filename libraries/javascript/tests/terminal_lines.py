@@ -80,7 +80,8 @@ def a_run_ends_where_a_condition_is_met():
     shown = terminal.type("transcript\r", "going> ")
     assert "run 2\nrun 5\nrun 100000\n" in shown, shown
     # what is asked at an order's beginning changes nothing, and can be completed
-    shown = terminal.type("at 2 pan\t\r", "going> ")
+    terminal.type("at 2 pan\t", "panel")
+    shown = terminal.type("\r", "going> ")
     assert "counter 0002 " in shown, shown
     terminal.type("at 3 why val\t", "value")
     terminal.type(CTRL_C, "going> ")
