@@ -1,9 +1,14 @@
-"""Where a list in the documents is not complete: the sections of the manuals in MACHINE, the documents in docs/README, what lies at the
-top in DEVELOPMENT, a README in each folder there, and what a reader looks for on a page."""
+"""Where lines of code are too wide, and where a list in the documents is not complete: the sections of the manuals in MACHINE, the
+documents in docs/README, what lies at the top in DEVELOPMENT, a README in each folder there, and what a reader looks for on a page."""
 
 import re
 import subprocess
 
+# How many columns a line of code may have, but for what stands in a text or a pattern.
+WIDTH = 140
+TEXTS = r'"(?:[^"\\\n]|\\.)*"|\'(?:[^\'\\\n]|\\.)*\'|`(?:[^`\\]|\\.)*`'
+COMMENTS = r"/\*.*?\*/|//[^\n]*"
+PATTERN = r"(?:^|(?<=[=(,:\[ ]))/[^/* ].*/"
 MANUALS = {"Programming": "PM", "Operations": "OM"}
 SECTION = re.compile(r'(Programming|Operations) Manual,\s+((?:"[^"]+"(?: and )?)+)')
 # Folders that are no reader's, and the one whose folders have a README each.
@@ -101,6 +106,18 @@ def missing_parts(top):
         yield from (f"{name}: it does not say {what}" for what, pattern in parts.items() if not re.search(pattern, text, re.M))
 
 
+def wide_lines(top):
+    """The lines of JavaScript and style sheets that have too many columns without their texts."""
+    files = subprocess.run(["git", "-C", top, "ls-files", "*.mjs", "*.css"], capture_output=True, text=True).stdout.split()
+    for name in files:
+        whole = (top / name).read_text()
+        left = re.sub(f"{TEXTS}|({COMMENTS})", lambda found: found[1] or "\n" * found[0].count("\n"), whole, flags=re.S)
+        for at, (line, rest) in enumerate(zip(whole.split("\n"), left.split("\n")), 1):
+            alone = re.sub(f"{TEXTS}|{PATTERN}", "", line)
+            if min(len(rest), len(alone)) > WIDTH:
+                yield f"{name}:{at}: a line of {len(line)} columns; {WIDTH} is most"
+
+
 def gaps(top):
-    """All that is not complete."""
-    return [*unlike_sections(top), *unlisted_documents(top), *unexplained_entries(top), *missing_parts(top)]
+    """All that is not complete or too wide."""
+    return [*unlike_sections(top), *unlisted_documents(top), *unexplained_entries(top), *missing_parts(top), *wide_lines(top)]

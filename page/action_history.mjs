@@ -16,7 +16,9 @@ function split(actions, orders) {
 }
 
 /** What was typed among actions. */
-const typedIn = (actions) => actions.filter(({ at = null }) => at !== null).map(({ line, at }) => ({ at, keys: line.replace(/^ *type ?/, "") }));
+const typedIn = (actions) => (
+    actions.filter(({ at = null }) => at !== null).map(({ line, at }) => ({ at, keys: line.replace(/^ *type ?/, "") }))
+);
 
 const sum = (actions) => actions.reduce((total, action) => total + action.orders, 0);
 
@@ -66,7 +68,10 @@ export class ActionHistory {
         }
     }
 
-    /** A line that is a step was done: a new one, or again the one that comes next. Of what was typed, `at` says how much text stood on the paper then. */
+    /**
+     * A line that is a step was done: a new one, or again the one that comes next. Of what was typed, `at` says how much text stood on the
+     * paper then.
+     */
     line(line, isAgain = false, at = null) {
         this.#done.push({ line, orders: 0, ...(at === null ? {} : { at }) });
         if (isAgain) this.#undone.shift();

@@ -1,4 +1,5 @@
-// Puts the one file together: node assemble.mjs TEMPLATE STYLE LACKING SHARED BEGIN MAIN WORKER MODULE EXAMPLES LESSONS TASKS NOTICES EXHIBITS, written to standard output.
+// Puts the one file together: node assemble.mjs TEMPLATE STYLE LACKING SHARED BEGIN MAIN WORKER MODULE EXAMPLES LESSONS TASKS NOTICES
+// EXHIBITS, written to standard output.
 import { readFileSync } from "node:fs";
 import { exhibitsBelow, lessonsBelow, remarksBelow, scriptsBelow, sharedSheetsBelow, sourcesBelow, tasksBelow } from "./documents.mjs";
 import { packed, packedText } from "./packed.mjs";
@@ -9,7 +10,10 @@ const text = (path) => readFileSync(path, "utf8");
 /** Text that may stand within a script element: nothing in it ends that element. */
 const inert = (script) => script.replaceAll("</", "<\\/").replaceAll("<!--", "<\\!--");
 
-/** Notices, in which a paragraph that another one has had is not repeated: the name of that one takes the place of it and of those that follow it. */
+/**
+ * Notices, in which a paragraph that another one has had is not repeated: the name of that one takes the place of it and of those that
+ * follow it.
+ */
 function once(notices) {
     const first = new Map();
     let name = "";
@@ -25,7 +29,21 @@ function once(notices) {
 
 /** What the page has of other files of the repository, as one text. */
 const texts = JSON.stringify({
-    examples: Object.fromEntries(scriptsBelow(shelf)), remarks: remarksBelow(shelf), sources: sourcesBelow(shelf), lessons: lessonsBelow(lessons), ...sharedSheetsBelow(lessons), tasks: tasksBelow(tasks, shelf), licences: once(text(notices)), exhibits: exhibitsBelow(exhibits, shelf),
+    examples: Object.fromEntries(scriptsBelow(shelf)),
+    remarks: remarksBelow(shelf),
+    sources: sourcesBelow(shelf),
+    lessons: lessonsBelow(lessons),
+    ...sharedSheetsBelow(lessons),
+    tasks: tasksBelow(tasks, shelf),
+    licences: once(text(notices)),
+    exhibits: exhibitsBelow(exhibits, shelf),
 });
-const parts = { LACKING: inert(text(lacking)), SHARED: inert(text(shared)), BEGIN: inert(text(begin)), PARTS: packedText([style, main, worker].map(text).join("\0")), MODULE: packed(readFileSync(module)), TEXTS: packedText(texts) };
+const parts = {
+    LACKING: inert(text(lacking)),
+    SHARED: inert(text(shared)),
+    BEGIN: inert(text(begin)),
+    PARTS: packedText([style, main, worker].map(text).join("\0")),
+    MODULE: packed(readFileSync(module)),
+    TEXTS: packedText(texts),
+};
 process.stdout.write(text(template).replace(/@([A-Z]+)@/g, (whole, name) => parts[name] ?? whole));

@@ -1,4 +1,5 @@
-// Begins the page: unpacks its style and its scripts, and puts them into their places. Before it stand what is told where a browser lacks something
+// Begins the page: unpacks its style and its scripts, and puts them into their places. Before it stand what is told where a browser lacks
+// something
 // (lacking.js), and what unpacks (shared.mjs), with which the Worker begins as well.
 const put = (kind, text) => document.head.append(Object.assign(document.createElement(kind), { textContent: text }));
 

@@ -1,8 +1,10 @@
-// Checks an exhibit of the kiosk: its form, and then each scene that its buttons lead to, which is played by the module. docs/EXHIBITS.md explains the file.
+// Checks an exhibit of the kiosk: its form, and then each scene that its buttons lead to, which is played by the module. docs/EXHIBITS.md
+// explains the file.
 //
 //     node page/check_exhibit.mjs [--address] FILE..
 //
-// With --address it writes what comes after the name of the page to open the exhibit there. Statuses: 0 where all files are right, 1 where one is not, 64 where the words are wrong.
+// With --address it writes what comes after the name of the page to open the exhibit there. Statuses: 0 where all files are right, 1 where
+// one is not, 64 where the words are wrong.
 import { existsSync, readFileSync } from "node:fs";
 import { dirname, join } from "node:path";
 import { fileURLToPath } from "node:url";
@@ -19,7 +21,9 @@ async function checked(file, examples) {
     if (!existsSync(file)) return { wrong: ["There is no such file."], right: [] };
     const { exhibit, wrong } = exhibitIn(readFileSync(file, "utf8"), (name) => examples.has(name));
     if (wrong !== null) return { wrong: [wrong], right: [] };
-    const trial = await played(exhibit, { module: join(page, "../libraries/javascript/lgp_c_region.wasm"), scriptOf: (name) => examples.get(name) });
+    const trial = await played(exhibit, {
+        module: join(page, "../libraries/javascript/lgp_c_region.wasm"), scriptOf: (name) => examples.get(name),
+    });
     return { wrong: trial.wrong, right: [`right, ${trial.scenes} scenes played`, ...trial.remarks], exhibit };
 }
 

@@ -20,7 +20,9 @@ const languages = readdirSync(join(tasksFolder, "language")).sort();
 const taskNames = readdirSync(tasksFolder).filter((name) => existsSync(join(tasksFolder, name, "task"))).sort();
 
 /** The sentences in English, and over them those of the language. */
-const sentencesOf = (code) => Object.assign({}, ...["en", code].map((name) => sentencesIn(readFileSync(join(tasksFolder, "language", name), "utf8"))));
+const sentencesOf = (code) => (
+    Object.assign({}, ...["en", code].map((name) => sentencesIn(readFileSync(join(tasksFolder, "language", name), "utf8"))))
+);
 
 /** A call that ends here: a status, and the lines that say why. */
 class Ending extends Error {
@@ -40,7 +42,9 @@ function languageHere({ LC_ALL, LC_MESSAGES, LANG }) {
 function asked(words) {
     const isNamed = words[0] === "--language";
     const code = isNamed ? words[1] : languageHere(process.env);
-    if (!languages.includes(code)) throw new Ending(WRONG_WORDS, speaker(sentencesOf("en"))("no-language", code ?? "", languages.join(" ")));
+    if (!languages.includes(code)) {
+        throw new Ending(WRONG_WORDS, speaker(sentencesOf("en"))("no-language", code ?? "", languages.join(" ")));
+    }
     const sentences = sentencesOf(code);
     const say = speaker(sentences);
     const [task, ...files] = isNamed ? words.slice(2) : words;

@@ -17,17 +17,24 @@ const readAll = async (reader) => {
 /** The files in an entry of what was dropped, with all that is in a folder; hidden ones are none of the class's. */
 async function filesIn(entry) {
     if (entry.name.startsWith(".")) return [];
-    if (entry.isFile) return [{ name: entry.fullPath.replace(/^\//, ""), file: await new Promise((resolve, reject) => entry.file(resolve, reject)) }];
+    if (entry.isFile) {
+        return [{ name: entry.fullPath.replace(/^\//, ""), file: await new Promise((resolve, reject) => entry.file(resolve, reject)) }];
+    }
     return (await Promise.all((await readAll(entry.createReader())).map(filesIn))).flat();
 }
 
-/** What was dropped, as files in the order of their names, and whether a folder is among it. It has to be asked before the event is over. */
+/**
+ * What was dropped, as files in the order of their names, and whether a folder is among it. It has to be asked before the event is over.
+ */
 export function dropped({ items, files }) {
     const entries = [...(items ?? [])].map((it) => it.webkitGetAsEntry?.() ?? null).filter((it) => it !== null);
     const plain = [...files].map((file) => ({ name: file.name, file }));
     const isFolder = entries.some((it) => it.isDirectory);
     const inOrder = (found) => found.sort((one, other) => (one.name < other.name ? -1 : 1));
-    return { isFolder, files: isFolder ? Promise.all(entries.map(filesIn)).then((found) => inOrder(found.flat())) : Promise.resolve(inOrder(plain)) };
+    return {
+        isFolder,
+        files: isFolder ? Promise.all(entries.map(filesIn)).then((found) => inOrder(found.flat())) : Promise.resolve(inOrder(plain)),
+    };
 }
 
 /** What the check says of each file, one after another in laboratories of a link; `told` is called with the place of each. */
@@ -41,4 +48,6 @@ export async function checkClass(link, files, { task, sentences, code, told }) {
 }
 
 /** The verdicts as text, as ./check_task writes them. */
-export const textOf = (verdicts) => verdicts.flatMap(({ verdict, missing }) => [verdict, ...missing.map((sentence) => `    ${sentence}`)]).map((line) => `${line}\n`).join("");
+export const textOf = (verdicts) => verdicts.flatMap(({ verdict, missing }) => [verdict, ...missing.map((sentence) => `    ${sentence}`)])
+    .map((line) => `${line}\n`)
+    .join("");

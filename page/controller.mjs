@@ -32,14 +32,19 @@ class Held extends Error {
 
 /** The controller of a laboratory. After each change it dispatches an event `change`; views read its fields. */
 export class Controller extends EventTarget {
-    /** The last panel; the words shown, each with the order that changed it last, or null; the words of the track that the counter names; and how many codes
-     * have been printed, with the typewriter's paper; and the code that was printed last, or null. */
+    /**
+     * The last panel; the words shown, each with the order that changed it last, or null; the words of the track that the counter names;
+     * and how many codes have been printed, with the typewriter's paper; and the code that was printed last, or null.
+     */
     panel = null;
     words = [];
     track = [];
     printed = { count: 0, text: "" };
     struck = null;
-    /** The accounts of the last orders, each with the `word` that its order used, and the rows of their turns, as far as these orders were told; and the last profile. */
+    /**
+     * The accounts of the last orders, each with the `word` that its order used, and the rows of their turns, as far as these orders were
+     * told; and the last profile.
+     */
     accounts = [];
     rows = [];
     profile = null;
@@ -221,7 +226,9 @@ export class Controller extends EventTarget {
 
     /** Goes on after a failure; another one may come up on the way. */
     #recover(failure) {
-        return this.#failed(failure).catch((second) => this.#failed(second)).catch(({ message }) => { this.notice = { kind: "broken", detail: message, lines: "" }; });
+        return this.#failed(failure)
+            .catch((second) => this.#failed(second))
+            .catch(({ message }) => { this.notice = { kind: "broken", detail: message, lines: "" }; });
     }
 
     async #failed(failure) {
@@ -256,8 +263,10 @@ export class Controller extends EventTarget {
         await this.#look();
     }
 
-    /** Begins with a new laboratory, in the same memory where little of it is used. An open source is given up. Gives the notice that offers the lines of the
-     * one before, or null where the reader has done nothing there that a script had not. */
+    /**
+     * Begins with a new laboratory, in the same memory where little of it is used. An open source is given up. Gives the notice that offers
+     * the lines of the one before, or null where the reader has done nothing there that a script had not.
+     */
     async #fresh() {
         if (this.openSource !== null) await this.#ask(".");
         const before = await this.#offer();
@@ -280,7 +289,13 @@ export class Controller extends EventTarget {
         this.#first = "0000";
         this.#isTouched = false;
         this.#hit = null;
-        Object.assign(this, { openSource: null, accounts: [], rows: [], profile: null, costs: null, assembled: null, labels: new Map(), loaded: null, kinds: new Map(), loading: null, rules: [], lastRun: null, performed: 0 });
+        Object.assign(
+            this,
+            {
+                openSource: null, accounts: [], rows: [], profile: null, costs: null, assembled: null, labels: new Map(), loaded: null,
+                kinds: new Map(), loading: null, rules: [], lastRun: null, performed: 0,
+            }
+        );
         this.#isRuleOfScript = [];
         this.#said = [];
         this.#cache.forget();
@@ -293,7 +308,9 @@ export class Controller extends EventTarget {
         return this.#link.ask(line);
     }
 
-    /** Asks a line that the reader sees, and notes what it did. Of a line that the page asks for itself the end of the reply alone is shown. */
+    /**
+     * Asks a line that the reader sees, and notes what it did. Of a line that the page asks for itself the end of the reply alone is shown.
+     */
     async #say(line, isAgain = false, isOwn = false) {
         if (this.openSource === null && await this.#isLongRun(line)) return this.#longRun(line);
         const before = this.openSource === null && NEW.test(line) ? await this.#offer() : null;
@@ -319,7 +336,9 @@ export class Controller extends EventTarget {
         return false;
     }
 
-    /** Does a line `run` in portions. Where they stop before its end the line of a script is left with the orders that are still to be done. */
+    /**
+     * Does a line `run` in portions. Where they stop before its end the line of a script is left with the orders that are still to be done.
+     */
     async #longRun(line) {
         const limit = this.#budget.longRunIn(line);
         this.#stops = false;
@@ -361,7 +380,10 @@ export class Controller extends EventTarget {
         else if (verb === "drop") this.#isRuleOfScript.splice(Number(operand), 1);
     }
 
-    /** Notes a step. A put with names of a source is noted as the line that it stands for, since a later source may give them to other places. */
+    /**
+     * Notes a step. A put with names of a source is noted as the line that it stands for, since a later source may give them to other
+     * places.
+     */
     async #noteStep(verb, line, isAgain) {
         const hasNames = verb === "put" && this.labels.size > 0 && !isAgain && !IN_DIGITS.test(line);
         const last = this.accounts.at(-1);
@@ -393,10 +415,15 @@ export class Controller extends EventTarget {
         if (verb === "drum") this.rows = replies.drumRowsOf(told);
         if (isReport && verb === "optimum-data" && word !== undefined) this.#costsOfLine = costsIn(reply);
         if (verb === "profile") this.profile = null;
-        if (!isRefused && (["trace", "profile"].includes(verb) || (verb === "optimum" && word !== undefined))) await this.#tellAgain(line, replies.runOf(end).orders, before);
+        if (!isRefused && (["trace", "profile"].includes(verb) || (verb === "optimum" && word !== undefined))) {
+            await this.#tellAgain(line, replies.runOf(end).orders, before);
+        }
     }
 
-    /** Start was pressed this number of times, each time after a run. The reply does not report how many orders these runs had, so they cannot be gone back over. */
+    /**
+     * Start was pressed this number of times, each time after a run. The reply does not report how many orders these runs had, so they
+     * cannot be gone back over.
+     */
     #noteStarts(starts, limit) {
         if (starts === 0) return;
         this.#forgetHistory();
@@ -431,7 +458,9 @@ export class Controller extends EventTarget {
         });
     }
 
-    /** A run that a rule has stopped, or that found the machine at rest, is told, but for one that a script asks for or that is done again. */
+    /**
+     * A run that a rule has stopped, or that found the machine at rest, is told, but for one that a script asks for or that is done again.
+     */
     #noteEnd({ orders, end, rule }, isAgain) {
         this.#noteOrders(orders, isAgain);
         if (this.#isInScript || isAgain) return;
@@ -452,7 +481,10 @@ export class Controller extends EventTarget {
         if (!this.#isInScript) Object.assign(this, { script: null, comments: new Map() });
     }
 
-    /** Going somewhere stands for lines that the operator could have done, each with a line of the reply. They are noted one by one, since there are steps among them that can be gone back over. */
+    /**
+     * Going somewhere stands for lines that the operator could have done, each with a line of the reply. They are noted one by one, since
+     * there are steps among them that can be gone back over.
+     */
     async #noteGo(reply) {
         const done = replies.linesOf(reply);
         const lines = await this.#transcript.last(done.length);
@@ -470,8 +502,11 @@ export class Controller extends EventTarget {
         Object.assign(this, { accounts: [], rows: [], loading: null });
     }
 
-    /** Looks at the machine: its state, and then, asked at once, words around the counter and those of its track, what is printed, and the rules. Where nothing was done but orders that were told,
-     * the rules are as they were, and so is what is printed unless one of them has printed. In an open source there is no looking. Words that the reader has asked for remain shown until the counter changes. */
+    /**
+     * Looks at the machine: its state, and then, asked at once, words around the counter and those of its track, what is printed, and the
+     * rules. Where nothing was done but orders that were told, the rules are as they were, and so is what is printed unless one of them has
+     * printed. In an open source there is no looking. Words that the reader has asked for remain shown until the counter changes.
+     */
     async #look() {
         if (this.openSource !== null) return;
         const isWhole = !this.#cache.isTold;
@@ -482,7 +517,11 @@ export class Controller extends EventTarget {
         if (isWhole || this.#isPrinted) asked.push(this.#lookAtPaper());
         else this.#budget.printed(this.printed.count);
         [, this.answers] = await Promise.all(asked);
-        if (this.#hit !== null) this.notice = { kind: "rule", number: this.#hit, rule: this.rules[this.#hit], isOfScript: this.#isRuleOfScript[this.#hit] ?? false };
+        if (this.#hit !== null) {
+            this.notice = {
+                kind: "rule", number: this.#hit, rule: this.rules[this.#hit], isOfScript: this.#isRuleOfScript[this.#hit] ?? false,
+            };
+        }
         this.#hit = null;
     }
 
@@ -502,7 +541,9 @@ export class Controller extends EventTarget {
         [this.#live, this.#costsOfLine] = [live, null];
         this.accounts = this.accounts.filter(({ clock }) => clock < panel.clock);
         const last = this.accounts.at(-1);
-        if (last !== undefined && last.register === undefined) Object.assign(last, { register: panel.register, next: panel.counter, status: panel.status });
+        if (last !== undefined && last.register === undefined) {
+            Object.assign(last, { register: panel.register, next: panel.counter, status: panel.status });
+        }
         if (panel.counter !== before && !isAmong(panel.counter, this.#first, SHOWN - 1)) this.#place(panel.counter);
     }
 
@@ -524,7 +565,10 @@ export class Controller extends EventTarget {
         await this.#cache.ask([...track, ...shown, ...this.wordsToo], !isWhole);
         if (isWhole) await this.#cache.askOrigins(shown);
         this.known = this.#cache.heldAt(this.wordsToo);
-        Object.assign(this, { words: this.#cache.words(shown), track: this.#cache.words(track).map(({ address, digits }) => ({ address, text: digits })) });
+        Object.assign(
+            this,
+            { words: this.#cache.words(shown), track: this.#cache.words(track).map(({ address, digits }) => ({ address, text: digits })) }
+        );
     }
 
     async #lookAtPaper() {
@@ -533,7 +577,9 @@ export class Controller extends EventTarget {
         this.printed = await this.#queries.paper();
         this.#isPrinted = false;
         if (told !== undefined) this.struck = told;
-        else if (this.printed.count !== before.count || this.printed.text !== before.text) this.struck = await this.#queries.struck(this.printed.count);
+        else if (this.printed.count !== before.count || this.printed.text !== before.text) {
+            this.struck = await this.#queries.struck(this.printed.count);
+        }
         this.#budget.printed(this.printed.count);
     }
 
@@ -560,7 +606,10 @@ export class Controller extends EventTarget {
         });
     }
 
-    /** Does lines one after another, as a button does: none of them is meant for a source. What is pressed while a run goes on is done between two of its portions. */
+    /**
+     * Does lines one after another, as a button does: none of them is meant for a source. What is pressed while a run goes on is done
+     * between two of its portions.
+     */
     command(...lines) {
         if (this.#between === null || !lines.every((line) => commandIn(line) === "press")) return this.#action(() => this.#sayAll(lines));
         return new Promise((resolve) => {
@@ -605,8 +654,10 @@ export class Controller extends EventTarget {
         });
     }
 
-    /** Performs orders and tells each; fewer where the machine comes to rest. Gives how many. Rows of the drum are left out where they are not wanted now.
-     * `whenDone` is given the last account before the change is shown. */
+    /**
+     * Performs orders and tells each; fewer where the machine comes to rest. Gives how many. Rows of the drum are left out where they are
+     * not wanted now. `whenDone` is given the last account before the change is shown.
+     */
     step(orders = 1, withRows = true, whenDone = () => {}) {
         return this.#work(async () => {
             const { register } = this.panel;
@@ -642,8 +693,10 @@ export class Controller extends EventTarget {
         if (number > 0) await this.#say(`back ${number}`);
     }
 
-    /** Performs again what was undone: a number of its orders, and what the operator did then before the next one. Gives how many. `whenDone` is given the account of a single one before the
-     * change is shown. */
+    /**
+     * Performs again what was undone: a number of its orders, and what the operator did then before the next one. Gives how many.
+     * `whenDone` is given the account of a single one before the change is shown.
+     */
     forward(orders, whenDone = () => {}) {
         return this.#work(async () => {
             const isTold = orders <= TOLD_AT_ONCE;
@@ -667,12 +720,18 @@ export class Controller extends EventTarget {
         return isTold ? this.#tell(orders, true) : replies.ordersOf(await this.#say(`orders ${orders}`, true)).orders;
     }
 
-    /** Runs in portions until the machine rests, a rule stops it, much is printed, memory becomes scarce, or the reader stops it. Ends with what it did. */
+    /**
+     * Runs in portions until the machine rests, a rule stops it, much is printed, memory becomes scarce, or the reader stops it. Ends with
+     * what it did.
+     */
     run(limit = Infinity) {
         return this.#runOn("run", limit);
     }
 
-    /** Runs as `run` does, and where the machine comes to rest it goes on by `operate`: that presses Start where a program waits for its typewriter. */
+    /**
+     * Runs as `run` does, and where the machine comes to rest it goes on by `operate`: that presses Start where a program waits for its
+     * typewriter.
+     */
     operate() {
         return this.#runOn("operate", Infinity);
     }
@@ -690,7 +749,10 @@ export class Controller extends EventTarget {
         });
     }
 
-    /** Runs in portions of `size` orders until something is there, the machine rests, or the reader stops it, and for no more than `limit` orders. What is asked for is asked of the paper as it is then. */
+    /**
+     * Runs in portions of `size` orders until something is there, the machine rests, or the reader stops it, and for no more than `limit`
+     * orders. What is asked for is asked of the paper as it is then.
+     */
     runUntil(isThere, size, limit) {
         this.#stops = false;
         return this.#work(async () => {
@@ -770,8 +832,10 @@ export class Controller extends EventTarget {
         return this.lastRun;
     }
 
-    /** Tells the last orders, where they were not told: those since the operator's last action, as far as they are kept. They are gone back over and performed again, with the rules taken out
-     * meanwhile, so that none of these stops them earlier. */
+    /**
+     * Tells the last orders, where they were not told: those since the operator's last action, as far as they are kept. They are gone back
+     * over and performed again, with the rules taken out meanwhile, so that none of these stops them earlier.
+     */
     async #tellLast() {
         const wanted = Math.min(LAST_TOLD, this.history.unbroken);
         if (wanted <= this.accounts.length) return;
@@ -840,7 +904,10 @@ export class Controller extends EventTarget {
         this.labels = await this.#queries.labels();
     }
 
-    /** A new laboratory, with the lines of a script that set a machine up. The others are kept, to be done. The lines of the one before are offered, as by `new`. */
+    /**
+     * A new laboratory, with the lines of a script that set a machine up. The others are kept, to be done. The lines of the one before are
+     * offered, as by `new`.
+     */
     openScript(name, text) {
         return this.#act(() => this.#openScript(name, text, false));
     }
@@ -865,7 +932,9 @@ export class Controller extends EventTarget {
         });
     }
 
-    /** The same before the machine's start and without the script's rules, so that Start sets it going and nothing but itself ends a run. */
+    /**
+     * The same before the machine's start and without the script's rules, so that Start sets it going and nothing but itself ends a run.
+     */
     openForShow(name, text) {
         return this.#act(async () => {
             await this.#openScript(name, text, true);
@@ -886,7 +955,10 @@ export class Controller extends EventTarget {
         await this.#look();
     }
 
-    /** Has the comments of the open script in another language: the text has the same lines but for these, else nothing is done. A run that was stopped has in its line the orders that are left. */
+    /**
+     * Has the comments of the open script in another language: the text has the same lines but for these, else nothing is done. A run that
+     * was stopped has in its line the orders that are left.
+     */
     retold(text) {
         const lines = linesIn(text);
         const { at } = this.script;
@@ -936,18 +1008,26 @@ export class Controller extends EventTarget {
         });
     }
 
-    /** The accounts of the same orders, none where they are too many, and what they would have taken with each of these words at each sector; null where that cannot be asked now. */
+    /**
+     * The accounts of the same orders, none where they are too many, and what they would have taken with each of these words at each
+     * sector; null where that cannot be asked now.
+     */
     askPlacing(addresses) {
         return this.#question(async () => {
             const isTold = this.history.unbroken <= PLACED_AT_MOST;
-            const told = await this.#overLast([...(isTold ? [(orders) => `json trace-data ${orders}`] : []), ...addresses.map((address) => (orders) => `json optimum-data ${orders} ${address}`)]);
+            const told = await this.#overLast([
+                ...(isTold ? [(orders) => `json trace-data ${orders}`] : []),
+                ...addresses.map((address) => (orders) => `json optimum-data ${orders} ${address}`),
+            ]);
             const accounts = isTold ? this.#accountsOf(replies.reportOf(told.shift()).told) : [];
             return { accounts, words: told.map(costsIn) };
         }).then((told) => told ?? null);
     }
 
-    /** Goes back over the last orders, those since the operator's last action, as far as they are kept, and performs them again by each of these lines. The rules are taken out meanwhile, so that
-     * none of them stops the orders earlier. */
+    /**
+     * Goes back over the last orders, those since the operator's last action, as far as they are kept, and performs them again by each of
+     * these lines. The rules are taken out meanwhile, so that none of them stops the orders earlier.
+     */
     async #overLast(lines) {
         if (this.#budget.isUsedUp) throw new Held({ kind: "usedUp" });
         const [told, cache] = [[], this.#cache];
@@ -983,9 +1063,13 @@ export class Controller extends EventTarget {
         return number;
     }
 
-    /** The digits of all words of the drum as it is now, in the order of their addresses; null where a source is open. They are asked once, and after something was done that was not told. */
+    /**
+     * The digits of all words of the drum as it is now, in the order of their addresses; null where a source is open. They are asked once,
+     * and after something was done that was not told.
+     */
     drum() {
-        this.#cache.drum ??= this.#act(async () => (this.openSource === null ? this.#queries.drum() : null)).then((digits) => digits ?? null);
+        this.#cache.drum ??= this.#act(async () => (this.openSource === null ? this.#queries.drum() : null)).then((digits) => digits
+            ?? null);
         return this.#cache.drum;
     }
 
@@ -1000,7 +1084,10 @@ export class Controller extends EventTarget {
         return this.accounts.findLast(({ clock, sum }) => clock + BigInt(sum) === this.panel.clock) ?? null;
     }
 
-    /** The order that stands in the instruction register, or null where it is not known which: the last one, where that was told and left the word that is there. */
+    /**
+     * The order that stands in the instruction register, or null where it is not known which: the last one, where that was told and left
+     * the word that is there.
+     */
     get orderInRegister() {
         const last = this.lastTold;
         return last !== null && last.register === this.panel.register ? last.order : null;

@@ -2,10 +2,16 @@
 import { SECTORS } from "./addresses.mjs";
 import { rewrittenBy } from "./views/says.mjs";
 
-/** How long a word time lasts, in milliseconds: 64 of them are a turn. It is a setting of the page, and what the page says in seconds comes from it. */
+/**
+ * How long a word time lasts, in milliseconds: 64 of them are a turn. It is a setting of the page, and what the page says in seconds comes
+ * from it.
+ */
 export const WORD_TIME = 0.26;
 
-/** The paces by their names: word times a second, how many times faster an act of more than a turn passes, and the rest between two orders. In a tale such an act passes as one turn. */
+/**
+ * The paces by their names: word times a second, how many times faster an act of more than a turn passes, and the rest between two orders.
+ * In a tale such an act passes as one turn.
+ */
 export const PACES = {
     order: { speed: 64, hurry: 4, rest: 2600 },
     slow: { speed: 32, hurry: 1, rest: 0 },
@@ -15,15 +21,20 @@ export const PACES = {
     fast: {},
 };
 
-/** In a show each order has its own speed: the first ones and those that rewrite another one are slow, those that print are hurried while they type, all else passes quickly. */
+/**
+ * In a show each order has its own speed: the first ones and those that rewrite another one are slow, those that print are hurried while
+ * they type, all else passes quickly.
+ */
 export function speedInShow(account, behind) {
     if (behind <= SHOWN_SLOWLY || rewrittenBy(account) !== null) return { speed: 32, hurry: 1 };
     return account.printed === null ? { speed: 96, hurry: 1 } : { speed: 48, hurry: 128 / 48 };
 }
 const SHOWN_SLOWLY = 3;
 
-/** In a show an order that has rewritten another one stands for this long, so that its caption can be read, and for this long after it none does; where nothing was printed for so long, what leads to the next print
- * is passed over, in this many orders at most. */
+/**
+ * In a show an order that has rewritten another one stands for this long, so that its caption can be read, and for this long after it none
+ * does; where nothing was printed for so long, what leads to the next print is passed over, in this many orders at most.
+ */
 export const SHOW = { stands: 5000, apart: 20_000, silence: 10_000, most: 50_000 };
 
 /** At its own pace: how often orders are asked for, at most how many at once, and how many word times one is thought to take at first. */
@@ -64,7 +75,9 @@ export class Drive extends EventTarget {
         await this.#order(pace);
     }
 
-    /** Goes on at a pace, for this number of orders where they are played. The same one again is a halt, but for the fastest, which goes on. */
+    /**
+     * Goes on at a pace, for this number of orders where they are played. The same one again is a halt, but for the fastest, which goes on.
+     */
     go(pace, orders = Infinity) {
         if (pace === "fast" && this.pace === "fast") return undefined;
         const wanted = this.pace === pace ? null : pace;
@@ -178,7 +191,9 @@ export class Drive extends EventTarget {
     }
 
     #play(account, pace) {
-        const { speed, hurry = account.act / SECTORS } = pace === "show" ? speedInShow(account, this.#laboratory.history.behind) : PACES[pace];
+        const {
+            speed, hurry = account.act / SECTORS,
+        } = pace === "show" ? speedInShow(account, this.#laboratory.history.behind) : PACES[pace];
         Object.assign(this.#player, { pace: speed, hurry });
         this.#player.play(account);
         this.dispatchEvent(new Event("play"));
@@ -197,7 +212,9 @@ export class Drive extends EventTarget {
         const due = this.#due(began);
         const orders = Math.max(1, Math.min(STRETCH.orders, Math.round(due / this.#since.average)));
         if (due > 0 && !await this.#told(orders)) return false;
-        if (this.pace === "own") await this.#until(this.#due(this.#clocks.now()) > 0 ? 0 : STRETCH.milliseconds - (this.#clocks.now() - began));
+        if (this.pace === "own") {
+            await this.#until(this.#due(this.#clocks.now()) > 0 ? 0 : STRETCH.milliseconds - (this.#clocks.now() - began));
+        }
         return due <= 0 || this.#isOn;
     }
 

@@ -1,4 +1,5 @@
-// The comments of an example, and the example with those of another language in their places. examples/language has a file for each language.
+// The comments of an example, and the example with those of another language in their places. examples/language has a file for each
+// language.
 import { areInSource, linesIn } from "./lines.mjs";
 
 /** A comment with what comes before it: outside of a source it is a whole line, in one it begins after a blank. */
@@ -27,9 +28,15 @@ const asScript = (source) => `source\n${source}.\n`;
 export const remarksOfSource = (source) => remarksOf(asScript(source));
 
 /** A source with the comments of a table in place of its own, where that has them. */
-export const sourceIn = (source, table) => withRemarks(asScript(source), remarksOfSource(source).map((remark) => table.get(remark) ?? null)).slice("source\n".length, -".\n".length);
+export const sourceIn =
+    (source, table) => withRemarks(
+        asScript(source), remarksOfSource(source).map((remark) => table.get(remark) ?? null)
+    ).slice("source\n".length, -".\n".length);
 
-/** The comments of a language by the English ones, of a file of examples/language: below each English one is the other, set in by four blanks. */
+/**
+ * The comments of a language by the English ones, of a file of examples/language: below each English one is the other, set in by four
+ * blanks.
+ */
 export function tableIn(text) {
     const lines = linesIn(text).filter((line) => !/^(#|$)/.test(line));
     return new Map(lines.flatMap((line, place) => (line.startsWith("    ") ? [[lines[place - 1], line.slice(4)]] : [])));

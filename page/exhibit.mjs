@@ -1,25 +1,34 @@
-// The exhibit at the kiosk: a program that plays by itself until somebody touches it, a story of its first orders, an end that asks a question, and games; and four buttons in each of these
+// The exhibit at the kiosk: a program that plays by itself until somebody touches it, a story of its first orders, an end that asks a
+// question, and games; and four buttons in each of these
 // states. Nothing here knows of a page.
 import { SHOW } from "./drive.mjs";
 import { KIOSK_GAMES, asksOf } from "./views/kiosk_game.mjs";
 
-/** The example that a kiosk shows where its address names none, and its game; the seconds without input after which it begins anew; how many orders its story has; how long it rests at the end; and where
- * nothing may move, how long a caption stands. */
-export const KIOSK = { example: "message", game: "games/matches", idleSeconds: 90, orders: 8, restMilliseconds: 3500, captionMilliseconds: 8000 };
+/**
+ * The example that a kiosk shows where its address names none, and its game; the seconds without input after which it begins anew; how many
+ * orders its story has; how long it rests at the end; and where nothing may move, how long a caption stands.
+ */
+export const KIOSK = {
+    example: "message", game: "games/matches", idleSeconds: 90, orders: 8, restMilliseconds: 3500, captionMilliseconds: 8000,
+};
 
 /** What a kiosk can offer, in the order of its buttons. */
 export const OFFERS = ["story", "faster", "matches"];
 
 /** What the buttons say in each state, by the names of their texts; null is none. `has` says whether something is offered. */
 const LABELS = {
-    attract: (has) => [has("story") ? "kioskBegin" : null, has("faster") ? "kioskFaster" : null, has("matches") ? "kioskMatches" : null, "kioskLanguage"],
+    attract: (has) => (
+        [has("story") ? "kioskBegin" : null, has("faster") ? "kioskFaster" : null, has("matches") ? "kioskMatches" : null, "kioskLanguage"]
+    ),
     story: (has, isLast) => ["captionBack", isLast ? "kioskToEnd" : "captionNext", "kioskOnceMore", "kioskToStart"],
     show: (has) => ["kioskOnceMore", "kioskToEnd", has("matches") ? "kioskMatches" : has("faster") ? "kioskFaster" : null, "kioskToStart"],
     end: (has) => ["kioskOnceMore", has("faster") ? "kioskFaster" : null, has("matches") ? "kioskMatches" : null, "kioskLanguage"],
     matches: () => ["kioskTake1", "kioskTake2", "kioskTake3", "kioskToStart"],
 };
 
-/** A program, its machine, and who is at it. What is done by buttons and what is done by itself come one after another. Dispatches `change`. */
+/**
+ * A program, its machine, and who is at it. What is done by buttons and what is done by itself come one after another. Dispatches `change`.
+ */
 export class Exhibit extends EventTarget {
     /** The state, by its name; how many orders of the story were done, and how many captions were shown where nothing may move. */
     state = "attract";
@@ -41,13 +50,18 @@ export class Exhibit extends EventTarget {
     #printing = new Map();
 
     /**
-     * `asked` is the example that is wanted, or null. `settings` has `scriptOf`, which gives an example's text or undefined, `isStill`, which says whether nothing may move, `sleep`, `language`, which changes it,
-     * `offers`, the names of what is offered, or null for all that there is, and `views`: what the page opens beside the machine, by the name of its offer, each with `press`, which is given the number of a button
-     * and says whether it goes on, and `labels`, the names of the texts of its buttons; and `home`, which is called in place of the beginning where this was chosen on a screen before it, or null.
+     * `asked` is the example that is wanted, or null. `settings` has `scriptOf`, which gives an example's text or undefined, `isStill`,
+     * which says whether nothing may move, `sleep`, `language`, which changes it,
+     * `offers`, the names of what is offered, or null for all that there is, and `views`: what the page opens beside the machine, by the
+     * name of its offer, each with `press`, which is given the number of a button
+     * and says whether it goes on, and `labels`, the names of the texts of its buttons; and `home`, which is called in place of the
+     * beginning where this was chosen on a screen before it, or null.
      */
     constructor(laboratory, drive, asked, settings) {
         super();
-        [this.#laboratory, this.#drive, this.#settings, this.#asked] = [laboratory, drive, { views: {}, language: () => {}, offers: null, home: null, ...settings }, asked];
+        [
+            this.#laboratory, this.#drive, this.#settings, this.#asked,
+        ] = [laboratory, drive, { views: {}, language: () => {}, offers: null, home: null, ...settings }, asked];
         const isGame = KIOSK_GAMES.has(asked);
         this.name = asked !== null && !isGame && settings.scriptOf(asked) !== undefined ? asked : KIOSK.example;
         const there = OFFERS.filter((name) => name !== "faster" || "faster" in this.#settings.views);
@@ -112,7 +126,9 @@ export class Exhibit extends EventTarget {
         this.at = 0;
         laboratory.questionsToo = game === undefined ? [] : asksOf(game, laboratory.labels);
         if (game !== undefined) await laboratory.command(...game.set);
-        if (this.#asked !== null && this.#settings.scriptOf(this.#asked) === undefined) await laboratory.tell({ kind: "noKioskExample", detail: this.#asked, shown: this.name });
+        if (this.#asked !== null && this.#settings.scriptOf(this.#asked) === undefined) {
+            await laboratory.tell({ kind: "noKioskExample", detail: this.#asked, shown: this.name });
+        }
     }
 
     /** Opens a program for a show, which passes over what is long without a print where it prints at all: that is tried once. */
@@ -129,7 +145,9 @@ export class Exhibit extends EventTarget {
         this.dispatchEvent(new Event("change"));
     }
 
-    /** Presses Start where the machine stands still. A program that has ended begins anew, since the words after its end are not part of it. */
+    /**
+     * Presses Start where the machine stands still. A program that has ended begins anew, since the words after its end are not part of it.
+     */
     async #start(name) {
         if (this.#laboratory.way.kind === "start" && this.#isBegun) await this.#open(name);
         if (this.#laboratory.way.kind !== "start") return;
@@ -137,7 +155,10 @@ export class Exhibit extends EventTarget {
         await this.#laboratory.command("press start");
     }
 
-    /** Opens the program, and then plays it again and again, until somebody takes over. What has to be told first, or a wish for no motion, leaves it standing. */
+    /**
+     * Opens the program, and then plays it again and again, until somebody takes over. What has to be told first, or a wish for no motion,
+     * leaves it standing.
+     */
     async attract() {
         if (this.#settings.home !== null) return this.#settings.home();
         this.#change("attract");
@@ -177,7 +198,10 @@ export class Exhibit extends EventTarget {
         if (labels[number - 1] === null) return this.#tail;
         const { views } = this.#settings;
         if (state in views) return views[state].press(number) ? this.#tail : this.attract();
-        return { attract: () => this.#chosen(number), end: () => this.#chosen(number), story: () => this.#turned(number), show: () => this.#ended(number), matches: () => this.#moved(number) }[state]();
+        return {
+            attract: () => this.#chosen(number), end: () => this.#chosen(number), story: () => this.#turned(number),
+            show: () => this.#ended(number), matches: () => this.#moved(number),
+        }[state]();
     }
 
     /** A choice while it attracts, or at the end of the story. */

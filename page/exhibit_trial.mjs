@@ -1,4 +1,5 @@
-// Plays an exhibit of the kiosk without a browser, by the module: each scene that its buttons lead to, on the shortest way. Its clock goes as fast as it is asked.
+// Plays an exhibit of the kiosk without a browser, by the module: each scene that its buttons lead to, on the shortest way. Its clock goes
+// as fast as it is asked.
 import { Controller } from "./controller.mjs";
 import { Drive } from "./drive.mjs";
 import { FIRST } from "./exhibits.mjs";
@@ -15,7 +16,10 @@ export function fastClocks() {
     return { time, now: () => time.now, sleep: async (milliseconds) => { time.now += milliseconds; await tick(); } };
 }
 
-/** An exhibit at a machine of its own. `settings` has `module`, the module's file, `scriptOf`, which gives an example's text, and what else the exhibit takes. */
+/**
+ * An exhibit at a machine of its own. `settings` has `module`, the module's file, `scriptOf`, which gives an example's text, and what else
+ * the exhibit takes.
+ */
 export async function trialOf(exhibit, { module, ...settings }) {
     const laboratory = new Controller(new ModuleLink(module));
     await laboratory.open();
@@ -30,13 +34,17 @@ export async function trialOf(exhibit, { module, ...settings }) {
     return { laboratory, drive, running, clocks };
 }
 
-const buttonsOf = (exhibit, scene) => exhibit.scenes[scene].buttons.map((it, place) => ({ number: place + 1, ...(typeof it === "object" ? it : {}) }));
+const buttonsOf = (exhibit, scene) => (
+    exhibit.scenes[scene].buttons.map((it, place) => ({ number: place + 1, ...(typeof it === "object" ? it : {}) }))
+);
 
 /** The shortest ways to all scenes: the numbers of the buttons that lead there from the first one, and whether it follows by itself. */
 export function waysTo({ scenes, ...exhibit }) {
     const ways = new Map([[FIRST, []]]);
     for (const [scene, way] of ways) {
-        for (const { number, to } of buttonsOf({ ...exhibit, scenes }, scene)) if (to !== undefined && !ways.has(to)) ways.set(to, [...way, number]);
+        for (const { number, to } of buttonsOf({ ...exhibit, scenes }, scene)) {
+            if (to !== undefined && !ways.has(to)) ways.set(to, [...way, number]);
+        }
         const { then } = scenes[scene];
         if (then !== undefined && !ways.has(then)) ways.set(then, [...way, "then"]);
     }
@@ -55,18 +63,28 @@ function troubleIn({ notice, assembled }) {
 function unknownPlaces(scene, { labels }) {
     const names = [...labels.values()].flat();
     const actions = [...scene.do ?? [], ...scene.buttons.flatMap((it) => it?.do ?? [])];
-    const named = [...actions.flatMap(({ to, carry }) => [to?.place, carry]), ...scene.captions.map(({ place }) => place), scene.beside?.bits, scene.beside?.words];
+    const named = [
+        ...actions.flatMap(({ to, carry }) => [to?.place, carry]),
+        ...scene.captions.map(({ place }) => place),
+        scene.beside?.bits,
+        scene.beside?.words,
+    ];
     return [...new Set(named)].filter((place) => place !== undefined && !/^\d{4}$/.test(place) && !names.includes(place));
 }
 
 /** Goes a way, and has the scene at its end played to its end. */
 async function gone(way, { running, laboratory }) {
-    for (const step of way) await (step === "then" ? running.enter(running.exhibit.scenes[running.scene].then, running.bet) : running.press(step));
+    for (const step of way) {
+        await (step === "then" ? running.enter(running.exhibit.scenes[running.scene].then, running.bet) : running.press(step));
+    }
     if (way.length === 0) await running.enter(FIRST);
     await laboratory.settled();
 }
 
-/** Plays all scenes. Gives what is wrong, as sentences, and what did not come about, which may be as it should be, where chance or a visitor decides. */
+/**
+ * Plays all scenes. Gives what is wrong, as sentences, and what did not come about, which may be as it should be, where chance or a visitor
+ * decides.
+ */
 export async function played(exhibit, settings) {
     const [wrong, remarks, ways] = [[], [], waysTo(exhibit)];
     for (const scene of Object.keys(exhibit.scenes)) if (!ways.has(scene)) remarks.push(`scenes.${scene}: no button leads to it.`);
@@ -76,14 +94,22 @@ export async function played(exhibit, settings) {
         const [{ running, laboratory }, it] = [trial, exhibit.scenes[scene]];
         const trouble = troubleIn(laboratory);
         if (trouble !== null) wrong.push(`scenes.${scene}: ${trouble}.`);
-        for (const place of unknownPlaces(it, laboratory)) wrong.push(`scenes.${scene}: "${place}" is not a label of its program. The labels are ${[...laboratory.labels.values()].flat().join(", ")}.`);
+        for (const place of unknownPlaces(it, laboratory)) {
+            wrong.push(
+                `scenes.${scene}: "${place}" is not a label of its program. The labels are ${[...laboratory.labels.values()].flat().join(", ")}.`
+            );
+        }
         const come = new Set(running.come);
         for (const { number, to, do: actions } of buttonsOf(exhibit, scene)) {
             if (actions === undefined || to !== undefined) continue;
             await running.press(number);
             for (const caption of running.come) come.add(caption);
         }
-        it.captions.forEach((caption, place) => { if (!come.has(caption) && caption.bet === undefined) remarks.push(`scenes.${scene}.captions[${place}] did not come about here.`); });
+        it.captions.forEach((caption, place) => {
+            if (!come.has(caption) && caption.bet === undefined) {
+                remarks.push(`scenes.${scene}.captions[${place}] did not come about here.`);
+            }
+        });
         running.leave();
     }
     return { wrong, remarks, scenes: ways.size };

@@ -20,7 +20,10 @@ const WORD = /^(?:d -lt ([0-9]{4}) |([0-9]{4}):\t)([0-9a-z]{8})\r?$/i;
 /** Whether a text begins as a drum does that SIMH has written. */
 export const isOfSimh = (text) => WORD.test(text.slice(0, text.indexOf("\n") + 1 || undefined).trimEnd());
 
-/** A drum of SIMH's as a script that puts its words; or the number of the first line that has no word, or none with a higher address than the one before. What a word's digits are the monitor says. */
+/**
+ * A drum of SIMH's as a script that puts its words; or the number of the first line that has no word, or none with a higher address than
+ * the one before. What a word's digits are the monitor says.
+ */
 export function scriptOfSimh(text) {
     const lines = [];
     let least = 0;

@@ -1,9 +1,13 @@
-// The drum turned by hand: time goes on and back, word time by word time within the order that was told last, and order by order at its ends. Nothing here knows of a page.
+// The drum turned by hand: time goes on and back, word time by word time within the order that was told last, and order by order at its
+// ends. Nothing here knows of a page.
 
 /** How many word times may be owed to a hand that is faster than the machine; and what counts as none. */
 const [MOST, NONE] = [128, 1e-6];
 
-/** A hand at the drum of a laboratory. Dispatches `take` before it holds the machine, `turn` when it has turned within an order, `end` with the way in which it cannot go on, and `rest` when all that was asked for is done. */
+/**
+ * A hand at the drum of a laboratory. Dispatches `take` before it holds the machine, `turn` when it has turned within an order, `end` with
+ * the way in which it cannot go on, and `rest` when all that was asked for is done.
+ */
 export class HandTurning extends EventTarget {
     #laboratory;
     #player;

@@ -1,4 +1,5 @@
-// The keeper of all that people write at the page: texts, lines for the machine, the step of a lesson, answers, sources of tasks, the language. It is kept within a second.
+// The keeper of all that people write at the page: texts, lines for the machine, the step of a lesson, answers, sources of tasks, the
+// language. It is kept within a second.
 
 /** How long after a change it is written at most. */
 const KEPT_AFTER = 400;
@@ -110,7 +111,10 @@ export class Works {
         return this.#keeper.of(`work/${id}`);
     }
 
-    /** Keeps the work at hand as it is now, and no more than ten. One in which nothing was done or written is kept only until another one begins. */
+    /**
+     * Keeps the work at hand as it is now, and no more than ten. One in which nothing was done or written is kept only until another one
+     * begins.
+     */
     keep(work, isWorth = true) {
         this.#keeper.keep(`work/${this.id}`, { ...work, isWorth, id: this.id, when: this.#now() });
         for (const { id } of this.all().slice(WORKS)) this.forget(id);
@@ -118,7 +122,11 @@ export class Works {
 
     /** All works in which something was done or written, the newest first. */
     all() {
-        return this.#keeper.names("work/").map((name) => this.#keeper.of(name)).filter(({ isWorth }) => isWorth).sort((one, other) => other.when - one.when);
+        return this.#keeper
+            .names("work/")
+            .map((name) => this.#keeper.of(name))
+            .filter(({ isWorth }) => isWorth)
+            .sort((one, other) => other.when - one.when);
     }
 
     forget(id) {
@@ -187,7 +195,9 @@ export class Sources {
         this.#keepBefore(name, [...before, ...here]);
     }
 
-    /** A tab that was closed in the same moment as another one had written this under a name: the source of a task can then be taken back. */
+    /**
+     * A tab that was closed in the same moment as another one had written this under a name: the source of a task can then be taken back.
+     */
     replaced(name, value) {
         const [kind, ...words] = name.split("/");
         const task = words.join("/");
@@ -224,7 +234,9 @@ export function takeOver(storage, keeper, works) {
         const names = Array.from({ length: shelf.length }, (unused, place) => shelf.key(place));
         for (const name of names.filter((it) => it.startsWith(TASK))) keeper.keep(`task/${name.slice(TASK.length)}`, shelf.getItem(name));
         const session = shelf.getItem(SESSION);
-        if (session !== null) works.keep({ door: "work", lines: session.replace(/\n$/, ""), script: null, drafts: {}, pupil: null, title: "" });
+        if (session !== null) {
+            works.keep({ door: "work", lines: session.replace(/\n$/, ""), script: null, drafts: {}, pupil: null, title: "" });
+        }
         if (session !== null) works.begin();
         for (const name of names.filter((it) => it === SESSION || it.startsWith(TASK))) shelf.removeItem(name);
     } catch {

@@ -1,4 +1,5 @@
-// What words are: whole numbers with their point, orders, or digits alone, as the lines of the loaded source declare them; and what the accumulator holds after each order, by what was brought there.
+// What words are: whole numbers with their point, orders, or digits alone, as the lines of the loaded source declare them; and what the
+// accumulator holds after each order, by what was brought there.
 import { isOrder } from "./language.mjs";
 import { orderIn, placesIn } from "./machine.mjs";
 import { digitsOf, signedOf } from "../libraries/javascript/replies.mjs";
@@ -12,7 +13,10 @@ const [WHOLE, FRACTION] = ["int", 10];
 /** Kinds of words: an order, and a number of places. A whole number's kind is its point, the bit after which that stands. */
 const [ORDER, PLACES] = ["order", "places"];
 
-/** The kinds of the words of a source by their places, as the reply to `source-data` has them; of one that is neither an order nor a whole number, null. */
+/**
+ * The kinds of the words of a source by their places, as the reply to `source-data` has them; of one that is neither an order nor a whole
+ * number, null.
+ */
 export function kindsIn(lines, data) {
     const textAt = (line, columns) => lines[line - 1].slice(...columns);
     const kindOf = ({ line, operation, operands }) => {
@@ -25,7 +29,10 @@ export function kindsIn(lines, data) {
 
 const wholeOf = (digits, point, code) => inSigns(signedOf(digits) / 2 ** (31 - point), code, { maximumFractionDigits: FRACTION });
 
-/** The digits of a word as what its kind says, in a language: the decimal number, the order, or a number of places; null where it is none of these. */
+/**
+ * The digits of a word as what its kind says, in a language: the decimal number, the order, or a number of places; null where it is none of
+ * these.
+ */
 export function valueOf(digits, kind, { code, text }) {
     if (typeof kind === "number") return wholeOf(digits, kind, code);
     const places = kind === PLACES ? placesIn(digits) : null;
@@ -37,7 +44,9 @@ export function valueOf(digits, kind, { code, text }) {
 const likely = (digits) => (/^-?[^z-]/.test(orderIn(digits) ?? "z") ? ORDER : null);
 
 /** The word at a place, as what the loaded source says that it is. */
-export const valueAt = (kinds, address, digits, texts) => valueOf(digits, kinds.size === 0 ? likely(digits) : kinds.get(address) ?? null, texts) ?? digits;
+export const valueAt = (kinds, address, digits, texts) => (
+    valueOf(digits, kinds.size === 0 ? likely(digits) : kinds.get(address) ?? null, texts) ?? digits
+);
 
 /** The digits of a word as the whole number that it was declared as, in a language; null where it was not. */
 export function wholeAt(kinds, address, digits, code) {
@@ -68,7 +77,10 @@ function kindAfter(account, held, kinds) {
     return ["h", "y", "r", "u", "t", "z", "p"].includes(letter) || (letter === "c" && typeof held === "number") ? held : null;
 }
 
-/** What the accumulator held before and after each of some accounts. Of what was there before an order that does not follow the one before it nothing is known. */
+/**
+ * What the accumulator held before and after each of some accounts. Of what was there before an order that does not follow the one before
+ * it nothing is known.
+ */
 export function accumulatorKinds(accounts, kinds) {
     let [held, clock] = [null, null];
     return accounts.map((account) => {

@@ -1,4 +1,5 @@
-// The source language as the page has it: how a line is divided for the eye, what completes a word, and what a laboratory says of a source. Whether a source is right, and what its words
+// The source language as the page has it: how a line is divided for the eye, what completes a word, and what a laboratory says of a source.
+// Whether a source is right, and what its words
 // are, the laboratory says; nothing of that is worked out here.
 import { linesIn } from "./lines.mjs";
 import { LETTERS } from "./machine.mjs";
@@ -14,7 +15,10 @@ const WITHOUT_NAMES = new Set(["word", "frac", "int", "org"]);
 const BLANK = /[ \t]/;
 const KINDS = ["label", "operation", "operand"];
 
-/** The tokens of a line, each with its kind, its columns and its text: a label begins in the first column, the first word after blanks is the operation, and the others are operands. */
+/**
+ * The tokens of a line, each with its kind, its columns and its text: a label begins in the first column, the first word after blanks is
+ * the operation, and the others are operands.
+ */
 export function tokensOf(line) {
     const tokens = [];
     let kind = line === "" || BLANK.test(line[0]) ? 1 : 0;
@@ -54,13 +58,18 @@ export function namedIn(lines, but) {
     return [...new Set(named)].filter((name) => name !== "" && !there.has(name)).map((name) => ({ name, line: null, rest: "" }));
 }
 
-/** What is written before a column: the kind of word that is asked for, where that begins, and its text so far; null where no word can be completed. */
+/**
+ * What is written before a column: the kind of word that is asked for, where that begins, and its text so far; null where no word can be
+ * completed.
+ */
 export function askedAt(line, column) {
     const before = tokensOf(line.slice(0, column));
     const last = before.at(-1);
     if (last?.kind === "comment" || last?.kind === "label" && last.to === column || line === "" || column === 0) return null;
     const isWithin = last?.to === column;
-    const { kind, from, text } = isWithin ? last : { kind: before.some((it) => it.kind === "operation") ? "operand" : "operation", from: column, text: "" };
+    const { kind, from, text } = isWithin
+        ? last
+        : { kind: before.some((it) => it.kind === "operation") ? "operand" : "operation", from: column, text: "" };
     if (kind === "operand" && (WITHOUT_NAMES.has(before.find((it) => it.kind === "operation")?.text) || text.startsWith("="))) return null;
     return { kind, from, text };
 }
@@ -68,7 +77,9 @@ export function askedAt(line, column) {
 /** The operations that begin with these signs, and what each means. */
 export function operationsWith(text, { orders, otherOperations }) {
     const all = [...Object.entries(orders), ...OTHERS.map((name) => [name, otherOperations[name]])];
-    return all.filter(([name]) => name.startsWith(text)).sort(([one], [other]) => one.length - other.length || (one < other ? -1 : 1)).map(([name, meaning]) => ({ name, meaning }));
+    return all.filter(([name]) => name.startsWith(text))
+        .sort(([one], [other]) => one.length - other.length || (one < other ? -1 : 1))
+        .map(([name, meaning]) => ({ name, meaning }));
 }
 
 /** How many signs are to be changed, put in, left out, or changed with their neighbour, so that one name becomes the other. */
@@ -78,7 +89,14 @@ function distance(one, other) {
         const row = [at + 1];
         for (let place = 0; place < other.length; place += 1) {
             const isSwapped = at > 0 && place > 0 && one[at] === other[place - 1] && one[at - 1] === other[place];
-            row.push(Math.min(row[place] + 1, rows[at][place + 1] + 1, rows[at][place] + (one[at] === other[place] ? 0 : 1), isSwapped ? rows[at - 1][place - 1] + 1 : Infinity));
+            row.push(
+                Math.min(
+                    row[place] + 1,
+                    rows[at][place + 1] + 1,
+                    rows[at][place] + (one[at] === other[place] ? 0 : 1),
+                    isSwapped ? rows[at - 1][place - 1] + 1 : Infinity
+                )
+            );
         }
         rows.push(row);
     }
@@ -88,14 +106,19 @@ function distance(one, other) {
 /** The name that is most like another one, or null where none is like it. Names of another length are not: there may be very many. */
 export function likest(name, names) {
     const most = Math.max(1, name.length / 3);
-    const [best] = names.filter((it) => Math.abs(it.length - name.length) <= most).map((it) => [distance(name, it), it]).sort(([one], [other]) => one - other);
+    const [best] = names.filter((it) => Math.abs(it.length - name.length) <= most)
+        .map((it) => [distance(name, it), it])
+        .sort(([one], [other]) => one - other);
     return best === undefined || best[0] > most ? null : best[1];
 }
 
 /** How many faults are shown; the others are counted. */
 const TOLD = 50;
 
-/** What a laboratory says of a source: a refusal; its first faults, and how many there are; or how many words it has and where it starts; and of each line its word. */
+/**
+ * What a laboratory says of a source: a refusal; its first faults, and how many there are; or how many words it has and where it starts;
+ * and of each line its word.
+ */
 export class Checked {
     #source;
 
@@ -105,7 +128,9 @@ export class Checked {
         this.refusal = refusal?.kind === "Faults" ? null : refusal;
         this.#source = new Source(this.refusal === null ? data : "");
         this.count = this.#source.faultCount;
-        this.faults = this.#source.faulty(TOLD).map(({ line, fault: { kind, at } }) => ({ line, kind, from: at?.[0] ?? 0, to: at?.[1] ?? 0 }));
+        this.faults = this.#source.faulty(TOLD).map(({ line, fault: { kind, at } }) => (
+            { line, kind, from: at?.[0] ?? 0, to: at?.[1] ?? 0 }
+        ));
         const { cells, start } = refusal === null ? replies.sourceOf(reply) : { cells: 0, start: null };
         Object.assign(this, { cells, start });
     }
@@ -132,9 +157,14 @@ export class Checked {
     }
 }
 
-/** What would be right in a line with a fault: what its kind asks for, or what the line says that was meant. A comment may lack its blank, and a label may be set in. */
+/**
+ * What would be right in a line with a fault: what its kind asks for, or what the line says that was meant. A comment may lack its blank,
+ * and a label may be set in.
+ */
 function rightOf(kind, line, { rightFor, rightOperand }) {
-    const [operation, ...operands] = tokensOf(line).filter((token) => ["operation", "operand"].includes(token.kind)).map(({ text }) => text);
+    const [operation, ...operands] = tokensOf(line)
+        .filter((token) => ["operation", "operand"].includes(token.kind))
+        .map(({ text }) => text);
     if (["Extra", "BadOperand", "UnknownName"].includes(kind) && operands.some((text) => text.includes(";"))) return rightFor.Comment;
     if (kind === "UnknownOrder" && isLabelSetIn(line)) return rightFor.Label;
     return ["MissingOperand", "BadOperand"].includes(kind) ? rightOperand[operation] ?? rightOperand.order : rightFor[kind];
@@ -154,7 +184,10 @@ export function isLabelSetIn(line) {
     return first?.kind === "operation" && isLabelOnly(first.text) && second !== undefined && isOperation(second.text);
 }
 
-/** Whether a fault is told already. Nobody is blamed for the line in work; and as long as there is no end line, what is named may still come, and so may the end, until somebody wants to run it. */
+/**
+ * Whether a fault is told already. Nobody is blamed for the line in work; and as long as there is no end line, what is named may still
+ * come, and so may the end, until somebody wants to run it.
+ */
 export function isTold({ line, kind }, { inWork, hasEnd, isAsked }) {
     if (isAsked) return true;
     return line !== inWork && (hasEnd || !["UnknownName", "NoEnd"].includes(kind));
@@ -163,7 +196,10 @@ export function isTold({ line, kind }, { inWork, hasEnd, isAsked }) {
 /** Whether a text has an end line. */
 export const hasEndLine = (lines) => lines.some((line) => tokensOf(line).some(({ kind, text }) => kind === "operation" && text === "end"));
 
-/** What is marked of a fault, and in a language what is wrong, the name that is perhaps meant, and all with what would be right: of a line, and the labels of its source. */
+/**
+ * What is marked of a fault, and in a language what is wrong, the name that is perhaps meant, and all with what would be right: of a line,
+ * and the labels of its source.
+ */
 export function sentenceOf({ kind, from, to }, line, labels, { table, text }) {
     const word = line.slice(from, to);
     const name = kind === "UnknownName" ? likest(/^[a-z0-9]*/.exec(word)[0], labels) : null;
@@ -176,7 +212,9 @@ export function sentenceOf({ kind, from, to }, line, labels, { table, text }) {
 /** How many signs a laboratory is sent before another one takes its place. */
 const MOST_SENT = 500_000;
 
-/** Asks a laboratory of its own what it says of sources. It is opened when it is first asked, and the visitor's machine knows nothing of it. */
+/**
+ * Asks a laboratory of its own what it says of sources. It is opened when it is first asked, and the visitor's machine knows nothing of it.
+ */
 export class Checker {
     #openLink;
     #link = null;

@@ -1,4 +1,5 @@
-// What a pupil who makes no mistake does in each step of the lessons: so their answers are made, and so the machine is brought to a step that an address names.
+// What a pupil who makes no mistake does in each step of the lessons: so their answers are made, and so the machine is brought to a step
+// that an address names.
 
 const steps = (orders) => (it) => it.step(orders);
 const types = (...lines) => (it) => it.say(...lines);
@@ -13,7 +14,10 @@ export const SOLUTIONS = {
         null, null,
         types("put 0000 b 0050", "put 0050 = 6"), one(starts, steps(1)), null, null, null, null, null, steps(1),
         steps(2), steps(2), one(types("put 0000 b 0043"), starts, steps(2)), null,
-        types("put 0000 p =h", "put 0001 p =i", "put 0002 z 0000"), one(starts, steps(1)), steps(2), one((it) => it.back(1), (it) => it.back(1)),
+        types("put 0000 p =h", "put 0001 p =i", "put 0002 z 0000"),
+        one(starts, steps(1)),
+        steps(2),
+        one((it) => it.back(1), (it) => it.back(1)),
         one(types("put 0000 p =d", "put 0001 p =r", "put 0002 p =u", "put 0003 p =m"), starts, runs), null, steps(4),
     ],
     "rewriting": [
@@ -23,7 +27,10 @@ export const SOLUTIONS = {
         steps(7), steps(7), null,
     ],
     "reading-a-listing": [
-        puts(["0200 00010300", "0201 000w0304", "0202 000g0214", "0203 000j0300", "0204 000f0200", "0205 00000000"]), puts(["0300 00000014", "0301 00000002"]), null, null,
+        puts(["0200 00010300", "0201 000w0304", "0202 000g0214", "0203 000j0300", "0204 000f0200", "0205 00000000"]),
+        puts(["0300 00000014", "0301 00000002"]),
+        null,
+        null,
         types("go 0200", "break 0200"), runs, steps(5), null, one(types("drop 0"), runs, (it) => it.showAt("0300")),
     ],
     "where-a-word-costs-least": [
@@ -32,13 +39,18 @@ export const SOLUTIONS = {
     "what-can-a-forecast-know": [
         one(types("break steps"), runs, runs, runs), types("numbers x 1"),
         one(types("run 188800", "press transfer down"), runs),
-        one(...["1000", "-0059", "-0058"].flatMap((number) => [types(`type ${number} '`), runs]), types("type 0240 '", "press transfer up")),
+        one(
+            ...["1000", "-0059", "-0058"].flatMap((number) => [types(`type ${number} '`), runs]), types("type 0240 '", "press transfer up")
+        ),
         types("run 79500"), null,
         types("run 160000"), null,
     ],
 };
 
-/** Brings the machine to a step: the part's beginning is set up by `open`, and what the steps between ask for is done. `steps` are those of the lesson, with their lines. */
+/**
+ * Brings the machine to a step: the part's beginning is set up by `open`, and what the steps between ask for is done. `steps` are those of
+ * the lesson, with their lines.
+ */
 export async function bringTo(laboratory, name, steps, place, open) {
     const first = steps.findLastIndex((step, at) => at <= place && step.isSetUp);
     if (first < 0) return;

@@ -1,4 +1,5 @@
-// Solves the lessons over the module as a pupil does who makes no mistake, and so has the answers of their steps. The sheets and the tests of the lessons are made from this.
+// Solves the lessons over the module as a pupil does who makes no mistake, and so has the answers of their steps. The sheets and the tests
+// of the lessons are made from this.
 import { readFileSync } from "node:fs";
 import { dirname, join } from "node:path";
 import { fileURLToPath } from "node:url";
@@ -13,7 +14,10 @@ const top = join(dirname(fileURLToPath(import.meta.url)), "..");
 
 const exampleOf = (name) => readFileSync(join(top, `examples/${name}.txt`), "utf8");
 
-/** The answers of a lesson's steps, null where none is asked for, and the laboratory where they have led. Where a step is not done by its action, or before it, that is an error. */
+/**
+ * The answers of a lesson's steps, null where none is asked for, and the laboratory where they have led. Where a step is not done by its
+ * action, or before it, that is an error.
+ */
 export async function solveLesson(name) {
     const laboratory = new Controller(new ModuleLink(join(top, "libraries/javascript/lgp_c_region.wasm")));
     await laboratory.open();

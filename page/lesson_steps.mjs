@@ -1,4 +1,5 @@
-// What each step of the lessons waits for, or asks: by what the laboratory has of the monitor's replies. The texts of the steps are in teaching/lessons.
+// What each step of the lessons waits for, or asks: by what the laboratory has of the monitor's replies. The texts of the steps are in
+// teaching/lessons.
 import { SECTORS, inTwoDigits } from "./addresses.mjs";
 import { placesTo, positionOf } from "./machine.mjs";
 import { wholeOf } from "../libraries/javascript/replies.mjs";
@@ -15,7 +16,9 @@ const all = (...conditions) => (laboratory) => conditions.every((condition) => c
 const placesOf = (sector) => ({ panel }) => String(placesTo(sector, panel.clock));
 
 /** The sector that the head reads next. */
-const comesNext = ({ panel }) => inTwoDigits(Array.from({ length: SECTORS }, (unused, sector) => sector).find((sector) => placesTo(sector, panel.clock) === 1));
+const comesNext = ({ panel }) => (
+    inTwoDigits(Array.from({ length: SECTORS }, (unused, sector) => sector).find((sector) => placesTo(sector, panel.clock) === 1))
+);
 
 const isAt = (address) => ({ panel }) => panel.counter === address;
 const wasAt = (address) => ({ accounts }) => accounts.at(-1)?.at === address;
@@ -41,10 +44,14 @@ const isAskedOf = (address) => ({ costs }) => costs?.address === address;
 const bestOf = ({ costs }) => inTwoDigits(costs.sectors.find(({ isBest }) => isBest).sector);
 
 /** In how many sectors the word that was asked for would have cost least. */
-const goodOf = ({ costs: { sectors } }) => String(sectors.filter(({ times }) => times === Math.min(...sectors.map((it) => it.times))).length);
+const goodOf = ({ costs: { sectors } }) => (
+    String(sectors.filter(({ times }) => times === Math.min(...sectors.map((it) => it.times))).length)
+);
 
 /** Whether the order at 0000 brings a word from a place of the pupil's own, none of those that the lesson has shown. */
-const isOwnPlace = (laboratory) => /^b \d{4}$/.test(orderAt("0000")(laboratory)) && !["b 0015", "b 0050"].includes(orderAt("0000")(laboratory));
+const isOwnPlace = (laboratory) => (
+    /^b \d{4}$/.test(orderAt("0000")(laboratory)) && !["b 0015", "b 0050"].includes(orderAt("0000")(laboratory))
+);
 
 /** The rows of weather on the paper, each with the number of its step, and ten times X, Y and Z as they are printed. */
 const weatherOn = ({ printed }) => printed.text.split("\n").map((line) => line.match(/-?\d{4}/g) ?? []).filter((row) => row.length === 4);
@@ -94,15 +101,22 @@ const SHEET = {
 };
 
 /**
- * The lessons by the names of their documents, each with its steps. An example that a step `opens` is opened when the step is reached, and set going; the lines below the step in its
- * document are done then as well. The list of words is turned to what it `shows`, and scrolled to the rows at which the step `looks`. A step is `done` when that holds, or asks for what `answer` gives, where `isAsked` holds. Where a step
+ * The lessons by the names of their documents, each with its steps. An example that a step `opens` is opened when the step is reached, and
+ * set going; the lines below the step in its
+ * document are done then as well. The list of words is turned to what it `shows`, and scrolled to the rows at which the step `looks`. A
+ * step is `done` when that holds, or asks for what `answer` gives, where `isAsked` holds. Where a step
  * `counts`, the drum does not tell what it asks for. Where the pupil `types` there is a box for lines.
  */
 export const LESSONS = [
     { name: "a-computer-on-a-drum", steps: [
         { answer: comesNext, isAsked: always },
         { answer: ({ panel }) => panel.counter, isAsked: always },
-        { types: true, done: all(isOrderAt("0000", "b 0050"), ({ track }) => track.some(({ address, text }) => address === "0050" && text === "0000000j")) },
+        {
+            types: true,
+            done: all(
+                isOrderAt("0000", "b 0050"), ({ track }) => track.some(({ address, text }) => address === "0050" && text === "0000000j")
+            ),
+        },
         { done: wasAt("0000") },
         { answer: ({ panel }) => String(wholeOf(panel.accumulator)), isAsked: wasAt("0000") },
         { answer: lastOf("sum"), isAsked: wasAt("0000") },
@@ -142,7 +156,12 @@ export const LESSONS = [
         { done: isAt("0003") },
         { answer: accumulator, isAsked: isAt("0004") },
         { looks: ["0001"], answer: orderAt("0001"), isAsked: wasAt("0005") },
-        { types: true, looks: ["0001"], answer: orderAt("0001"), isAsked: all(hasRule("watch 0001"), isAt("0006"), (laboratory) => !isOrderAt("0001", "a 0010")(laboratory)) },
+        {
+            types: true,
+            looks: ["0001"],
+            answer: orderAt("0001"),
+            isAsked: all(hasRule("watch 0001"), isAt("0006"), (laboratory) => !isOrderAt("0001", "a 0010")(laboratory)),
+        },
         { looks: ["0007"], answer: digitsAt("0007"), isAsked: isOrderAt("0001", "a 0012") },
         { opens: "self-modifying", done: isAt("0005") },
         { counts: true, answer: placesOf(5), isAsked: isAt("0005") },
@@ -164,12 +183,27 @@ export const LESSONS = [
         { answer: clock, isAsked: all(isAt("0200"), holds("00000012")) },
         { answer: sumOf(5), isAsked: all(isAt("0200"), holds("00000010"), areTold(5)) },
         { answer: turnsOf(5), isAsked: all(isAt("0200"), holds("00000010"), areTold(5)) },
-        { types: true, looks: ["0300"], answer: digitsAt("0300"), isAsked: all(hasStopped, (laboratory) => wordAt(laboratory, "0300") !== undefined) },
+        {
+            types: true,
+            looks: ["0300"],
+            answer: digitsAt("0300"),
+            isAsked: all(hasStopped, (laboratory) => wordAt(laboratory, "0300") !== undefined),
+        },
     ] },
     { name: "what-can-a-forecast-know", steps: [
-        { opens: "weather/lorenz", types: true, answer: (laboratory) => weatherOn(laboratory)[2][2], isAsked: (laboratory) => weatherOn(laboratory).length > 2 },
+        {
+            opens: "weather/lorenz",
+            types: true,
+            answer: (laboratory) => weatherOn(laboratory)[2][2],
+            isAsked: (laboratory) => weatherOn(laboratory).length > 2,
+        },
         { types: true, answer: decimalsTold, isAsked: (laboratory) => decimalsTold(laboratory) !== null },
-        { opens: "weather/lorenz", types: true, answer: (laboratory) => weatherOn(laboratory).at(-1)[0], isAsked: ({ panel }) => panel.status === "waiting" },
+        {
+            opens: "weather/lorenz",
+            types: true,
+            answer: (laboratory) => weatherOn(laboratory).at(-1)[0],
+            isAsked: ({ panel }) => panel.status === "waiting",
+        },
         { types: true, done: wasTypedAgain },
         { types: true, answer: partsBy(20), isAsked: isPrintedAgain },
         { answer: partsBy(100), isAsked: isPrintedAgain },
@@ -178,7 +212,10 @@ export const LESSONS = [
     ] },
 ];
 
-/** Begins anew with what a step has: an example, whose text `textOf` gives, or lines. The machine is set going by an example, and by lines that press Start. */
+/**
+ * Begins anew with what a step has: an example, whose text `textOf` gives, or lines. The machine is set going by an example, and by lines
+ * that press Start.
+ */
 export async function setUpFor(laboratory, { opens, lines }, textOf) {
     await laboratory.openForShow(opens ?? "", opens === undefined ? lines.join("\n") : textOf(opens));
     const starts = opens === undefined ? lines.includes("press start") : laboratory.way.kind === "start";

@@ -21,12 +21,17 @@ export function headOf(script) {
 const PUT = /^ *put +(\d{4}) +([0-9fgjkqw]{8}) *$/;
 const OF_A_PLACE = /^; *(\d{4}) +(?:-?[a-z] \d{4} +)?(.*)$/;
 
-/** What a script says of the words that it puts: the comment before a `put` that begins with its address, up to its first full stop, and the word's digits. */
+/**
+ * What a script says of the words that it puts: the comment before a `put` that begins with its address, up to its first full stop, and the
+ * word's digits.
+ */
 export function commentsIn(lines) {
     return new Map(lines.flatMap((line, place) => {
         const [, address, digits] = PUT.exec(line) ?? [];
         const [, named, comment] = OF_A_PLACE.exec(lines[place - 1] ?? "") ?? [];
-        return address === undefined || named !== address ? [] : [[address, { digits, comment: comment.split(/\. /)[0].replace(/\.$/, "") }]];
+        return address === undefined || named !== address
+            ? []
+            : [[address, { digits, comment: comment.split(/\. /)[0].replace(/\.$/, "") }]];
     }));
 }
 
@@ -68,7 +73,10 @@ export function withoutQuestions(script, questions) {
     return written.filter((unused, place) => inSource[place] || !questions.has(commandIn(lines[place]))).join("");
 }
 
-/** What becomes of a text that is pasted between what is there before and after it: the lines that it ends, and what stays. Null where it ends no line. */
+/**
+ * What becomes of a text that is pasted between what is there before and after it: the lines that it ends, and what stays. Null where it
+ * ends no line.
+ */
 export function pasted(text, before, after) {
     const lines = `${before}${text}`.replace(/\r\n?/g, "\n").split("\n");
     return lines.length === 1 ? null : { lines: lines.slice(0, -1), stays: `${lines.at(-1)}${after}` };

@@ -1,4 +1,5 @@
-// What the page itself knows of the machine, to draw with: where sectors lie on the drum, how an order stands in a word, what an order's waits are elsewhere, and the places of the loader. The rules of the machine are the
+// What the page itself knows of the machine, to draw with: where sectors lie on the drum, how an order stands in a word, what an order's
+// waits are elsewhere, and the places of the loader. The rules of the machine are the
 // monitor's; a test holds all of this against what the monitor answers. Nothing here knows of a page.
 import { SECTORS, addressOf, numberOf, sectorOf } from "./addresses.mjs";
 import { signedOf } from "../libraries/javascript/replies.mjs";
@@ -38,7 +39,10 @@ export const sectorAt = (position) => (57 * (((position % SECTORS) + SECTORS) % 
 /** How many word times it takes until the head has read a sector, from a clock on: the drum is read once at least. */
 export const placesTo = (sector, clock) => ((positionOf(sector) - Number(clock % BigInt(SECTORS)) + 2 * SECTORS - 1) % SECTORS) + 1;
 
-/** The same orders with words at other sectors, one after another: each waits until it comes itself, and then its word; all else takes what it took. */
+/**
+ * The same orders with words at other sectors, one after another: each waits until it comes itself, and then its word; all else takes what
+ * it took.
+ */
 export function elsewhere(accounts, sectorOfWord) {
     let clock = accounts[0]?.clock;
     return accounts.map((account) => {

@@ -159,7 +159,12 @@ function progressOf({ orders, starts, milliseconds }) {
 /** What a run does, or what the last one has done, as long as nothing is done after it. It is read out when the run has ended. */
 function showProgress({ progress, lastRun, notice }) {
     const place = document.getElementById("progress");
-    const told = isKiosk ? null : progress ?? (notice === null && lastRun !== null && lastRun.orders + lastRun.starts > 0 ? { ...lastRun, milliseconds: Math.max(1, lastRun.milliseconds) } : null);
+    const told = isKiosk
+        ? null
+        : progress
+            ?? (notice === null && lastRun !== null && lastRun.orders + lastRun.starts > 0
+                ? { ...lastRun, milliseconds: Math.max(1, lastRun.milliseconds) }
+                : null);
     place.setAttribute("aria-busy", String(progress !== null));
     place.textContent = told === null ? "" : progressOf(told);
     place.hidden = told === null;
@@ -180,7 +185,10 @@ const exampleNamed = (name) => withRemarks(examples.get(name), remarks[texts.cod
 /** The source that stands beside the open example where its script puts words in, in the language of the page; else "". */
 const sourceBeside = () => exampleSources[texts.code]?.[laboratory.script?.name] ?? "";
 
-/** Goes on in another language; an example that is open has its comments in that as well. Where a control had the focus, the one of this name has it then. */
+/**
+ * Goes on in another language; an example that is open has its comments in that as well. Where a control had the focus, the one of this
+ * name has it then.
+ */
 function goOnIn(code, id) {
     texts = textsIn(code);
     const name = laboratory.script?.name;
@@ -195,13 +203,24 @@ function goOnIn(code, id) {
 /** What the hall shows. */
 const HALL_EXAMPLE = "self-modifying";
 
-/** Whether something was done in the work at hand: at the machine, in a field, or in a lesson. What stands in the fields since an earlier one is kept with that. */
-const isWorth = (own) => own.doings > 0 || JSON.stringify(drafts.all) !== begunWith || pupil.isDone.size > 0 || (works.of(works.id)?.isWorth ?? false);
+/**
+ * Whether something was done in the work at hand: at the machine, in a field, or in a lesson. What stands in the fields since an earlier
+ * one is kept with that.
+ */
+const isWorth = (own) => (
+    own.doings > 0 || JSON.stringify(drafts.all) !== begunWith || pupil.isDone.size > 0 || (works.of(works.id)?.isWorth ?? false)
+);
 
 /** The visitor's work as it is now. */
 const workOf = (own) => ({
-    door: door === "hall" ? "work" : door, title: titleOf(own, pupil, sources, texts), lines: own.lines.join("\n"), script: own.script, performed: own.performed,
-    drafts: drafts.all, task: sources.open, pupil: pupil.lesson === null ? null : { lesson: pupil.lesson.name, at: pupil.at, isDone: [...pupil.isDone] },
+    door: door === "hall" ? "work" : door,
+    title: titleOf(own, pupil, sources, texts),
+    lines: own.lines.join("\n"),
+    script: own.script,
+    performed: own.performed,
+    drafts: drafts.all,
+    task: sources.open,
+    pupil: pupil.lesson === null ? null : { lesson: pupil.lesson.name, at: pupil.at, isDone: [...pupil.isDone] },
 });
 
 /** Keeps the work at hand. */
@@ -226,7 +245,10 @@ function beginWork(texts) {
     return before;
 }
 
-/** Does what begins another laboratory; what was written in the one before is kept and offered. Its source stays in its field where that is wanted. */
+/**
+ * Does what begins another laboratory; what was written in the one before is kept and offered. Its source stays in its field where that is
+ * wanted.
+ */
 function beginAnother(action, { keepsSource = false, isOffered = true } = {}) {
     opening = opening.then(async () => {
         drive.halt();
@@ -235,7 +257,9 @@ function beginAnother(action, { keepsSource = false, isOffered = true } = {}) {
         const before = beginWork(keepsSource && source !== undefined ? { ...others, source } : others);
         await action();
         const { notice } = laboratory;
-        if (isOffered && before !== null && (notice === null || notice.kind === "before")) await laboratory.tell({ ...notice ?? { kind: "beforeKept" }, work: before.id });
+        if (isOffered && before !== null && (notice === null || notice.kind === "before")) {
+            await laboratory.tell({ ...notice ?? { kind: "beforeKept" }, work: before.id });
+        }
         noteWork();
     });
     return opening;
@@ -284,17 +308,30 @@ async function openSaved(name, script) {
 }
 
 /** The texts that an example has in the page's languages, each with its language. */
-const editionsOf = (name) => (examples.has(name) ? Object.keys(LANGUAGES).map((code) => [code, withRemarks(examples.get(name), remarks[code]?.[name] ?? [])]) : []);
+const editionsOf = (name) => (
+    examples.has(name) ? Object.keys(LANGUAGES).map((code) => [code, withRemarks(examples.get(name), remarks[code]?.[name] ?? [])]) : []
+);
 
 /** What of a work is sent, and with a task its source. Only Work and Learn are opened so: a story is led to by its own address. */
-const sentOfWork = (work) => sentOf({ ...work, door: work.door === "learn" ? "learn" : "work", source: work.task === null ? null : sources.of(work.task), isPaperUp: work.id === works.id && parts.sheet.isUp }, editionsOf);
+const sentOfWork = (work) => sentOf(
+    {
+        ...work,
+        door: work.door === "learn" ? "learn" : "work",
+        source: work.task === null ? null : sources.of(work.task),
+        isPaperUp: work.id === works.id && parts.sheet.isUp,
+    },
+    editionsOf
+);
 
 /** Shows a work to be sent. */
 async function share(work) {
     dialog(texts.text("share"), h("p", {}, texts.text("sentHint")), ...await nodesOfSent(sentOfWork(work), texts, location));
 }
 
-/** Opens what somebody has sent as another work beside the one at hand; where it cannot be opened, that is told. `go` leads through a door. One that would take long is opened up to its first run. */
+/**
+ * Opens what somebody has sent as another work beside the one at hand; where it cannot be opened, that is told. `go` leads through a door.
+ * One that would take long is opened up to its first run.
+ */
 async function openSent({ work, wrong }, go) {
     if (wrong !== null) return laboratory.tell({ kind: "wrongSent", wrong });
     await restored;
@@ -315,7 +352,10 @@ async function openSent({ work, wrong }, go) {
     return isLong ? laboratory.tell({ kind: "sentLong", most: MOST_AGAIN, work: laboratory.notice?.work }) : undefined;
 }
 
-/** What a link has held is open: the address names the place, so that the page when loaded again has the work as it was left, and not once more what was sent. */
+/**
+ * What a link has held is open: the address names the place, so that the page when loaded again has the work as it was left, and not once
+ * more what was sent.
+ */
 function tellOpened() {
     history.replaceState(null, "", addressOf(placeNow(), location));
     noteWork();
@@ -344,20 +384,27 @@ async function openObject(text) {
 }
 
 /** Opens an example that the page shows by itself, and sets it going. */
-const openShown = (name) => (isWorth(laboratory) ? beginAnother(() => setUpFor(laboratory, { opens: name }, exampleNamed)) : setUpShown({ opens: name }));
+const openShown = (name) => (
+    isWorth(laboratory) ? beginAnother(() => setUpFor(laboratory, { opens: name }, exampleNamed)) : setUpShown({ opens: name })
+);
 
 function setUpShown(step) {
     opening = opening.then(() => setUpFor(laboratory, step, exampleNamed));
     return opening;
 }
 
-/** Sets the machine up for a step of a lesson. One that was set up so before, and at which the pupil has done nothing since, is no work of its own. */
+/**
+ * Sets the machine up for a step of a lesson. One that was set up so before, and at which the pupil has done nothing since, is no work of
+ * its own.
+ */
 async function openForStep(step) {
     await restored;
     drive.halt();
     const isUntouched = works.id === setUpHere && laboratory.doings === 0;
     if (isUntouched) drafts.keep("carried", null);
-    await (isWorth(laboratory) && !isUntouched ? beginAnother(() => setUpFor(laboratory, step, exampleNamed), { isOffered: false }) : setUpShown(step));
+    await (isWorth(laboratory) && !isUntouched
+        ? beginAnother(() => setUpFor(laboratory, step, exampleNamed), { isOffered: false })
+        : setUpShown(step));
     setUpHere = works.id;
 }
 
@@ -376,8 +423,13 @@ async function runProgram(source) {
 
 /** Where the visitor is, as addresses name it. */
 const placeNow = () => ({
-    door, lesson: door === "learn" ? pupil.lesson?.name : null, step: Math.min(pupil.at + 1, pupil.lesson?.steps.length ?? 1), task: door === "learn" ? sources.open : null,
-    story: door === "look" && viewer.tale !== null ? TALES.indexOf(viewer.tale) + 1 : null, caption: viewer.at + 1, game: door === "look" ? game : null,
+    door,
+    lesson: door === "learn" ? pupil.lesson?.name : null,
+    step: Math.min(pupil.at + 1, pupil.lesson?.steps.length ?? 1),
+    task: door === "learn" ? sources.open : null,
+    story: door === "look" && viewer.tale !== null ? TALES.indexOf(viewer.tale) + 1 : null,
+    caption: viewer.at + 1,
+    game: door === "look" ? game : null,
     example: door === "work" && examples.has(laboratory.script?.name) ? laboratory.script.name : null,
 });
 
@@ -411,7 +463,10 @@ async function pass(wanted, isNew) {
     if (isNew && isOther && wanted === "look" && !isWorth(visitors)) beginTales();
 }
 
-/** Look begins by itself with its first story, unless one is open, or the game. Who comes from Work or Learn finds the machine as it was there. */
+/**
+ * Look begins by itself with its first story, unless one is open, or the game. Who comes from Work or Learn finds the machine as it was
+ * there.
+ */
 function beginTales() {
     if (door === "look" && viewer.tale === null && game === null) parts.tales.openAt(1, null);
 }
@@ -427,7 +482,9 @@ function placeDoor() {
     if (isPlayed) parts.faster.begin(game);
     else parts.faster?.stop();
     for (const name of isKiosk ? ["door", "window"] : ["state"]) delete document.body.dataset[name];
-    if (!isKiosk || !(exhibit instanceof Running)) for (const name of ["exhibit", "beside", "scene", "busy"]) delete document.body.dataset[name];
+    if (!isKiosk || !(exhibit instanceof Running)) {
+        for (const name of ["exhibit", "beside", "scene", "busy"]) delete document.body.dataset[name];
+    }
     if (!isKiosk) { showDoor(door); arrange(); }
     placeNotices(isKiosk || door === "hall" || isPlayed ? null : document.querySelector(".tells"));
 }
@@ -441,7 +498,11 @@ function dialog(heading, ...children) {
 }
 
 /** A link under which a script is saved. */
-const linkTo = (script) => h("a", { href: URL.createObjectURL(new Blob([script], { type: "text/plain" })), download: "laboratory.txt" }, `${texts.text("save")} laboratory.txt`);
+const linkTo = (script) => h(
+    "a",
+    { href: URL.createObjectURL(new Blob([script], { type: "text/plain" })), download: "laboratory.txt" },
+    `${texts.text("save")} laboratory.txt`
+);
 
 /** Shows the transcript, without the lines that only ask where the reader does not want them. */
 async function save() {
@@ -453,25 +514,45 @@ async function save() {
     const show = () => {
         const script = wanted.checked ? whole : withoutQuestions(whole, laboratory.questions);
         place.textContent = script;
-        below.replaceChildren(linkTo(script), ` ${text("lineCount", { count: counted(script === "" ? 0 : linesIn(script).length, code) })}`);
+        below.replaceChildren(
+            linkTo(script), ` ${text("lineCount", { count: counted(script === "" ? 0 : linesIn(script).length, code) })}`
+        );
         const link = linkOf(script, location);
         address.replaceChildren(...(link === null ? [text("noLink")] : [h("a", { href: link, id: "link" }, text("linkThat"))]));
     };
     const wanted = h("input", { type: "checkbox", id: "with-questions", onchange: show });
     show();
-    dialog(text("save"), h("p", {}, text("saveHint")), place, h("p", {}, h("label", {}, wanted, ` ${text("withQuestions")}`)), below, address);
+    dialog(
+        text("save"), h("p", {}, text("saveHint")), place, h("p", {}, h("label", {}, wanted, ` ${text("withQuestions")}`)), below, address
+    );
 }
 
 function about() {
-    const wanted = h("input", { type: "checkbox", id: "short-keys", checked: hasShortKeys, onchange: () => { hasShortKeys = wanted.checked; } });
-    const ours = h("details", { id: "notices-of-all" }, h("summary", {}, texts.text("licences")), h("pre", { class: "transcript", lang: "en", tabindex: "0", role: "group", "aria-label": texts.text("licences") }, licences));
-    dialog(texts.text("about"), ...texts.table.aboutText.map((paragraph) => h("p", {}, paragraph)), ours, h("p", {}, texts.text("version", manifest)), ...makeAddresses(manifest, texts), h("p", {}, h("label", {}, wanted, ` ${texts.text("shortKeys")}`)));
+    const wanted = h("input", {
+        type: "checkbox", id: "short-keys", checked: hasShortKeys, onchange: () => { hasShortKeys = wanted.checked; },
+    });
+    const ours = h(
+        "details",
+        { id: "notices-of-all" },
+        h("summary", {}, texts.text("licences")),
+        h("pre", { class: "transcript", lang: "en", tabindex: "0", role: "group", "aria-label": texts.text("licences") }, licences)
+    );
+    dialog(
+        texts.text("about"),
+        ...texts.table.aboutText.map((paragraph) => h("p", {}, paragraph)),
+        ours,
+        h("p", {}, texts.text("version", manifest)),
+        ...makeAddresses(manifest, texts),
+        h("p", {}, h("label", {}, wanted, ` ${texts.text("shortKeys")}`))
+    );
 }
 
 /** What is played, as long as it leads to where the machine stands; in slow motion up to the next order. */
 function playing() {
     const at = player.at();
-    if (at === null || at.account !== laboratory.accounts.at(-1) || at.account.clock + BigInt(at.account.sum) !== laboratory.panel.clock) return null;
+    if (at === null || at.account !== laboratory.accounts.at(-1) || at.account.clock + BigInt(at.account.sum) !== laboratory.panel.clock) {
+        return null;
+    }
     return at.done && !["slow", "tale", "show"].includes(drive.pace) ? null : at;
 }
 
@@ -504,8 +585,20 @@ const run = (machine) => (isOperated && door === "work" && !isKiosk ? machine.op
 /** The switch of the runs by `operate`. */
 function makeOperated() {
     const { text } = texts;
-    const wanted = h("input", { type: "checkbox", id: "operated", checked: isOperated, "aria-describedby": "operated-hint", onchange: () => { isOperated = wanted.checked; } });
-    return h("p", { class: "operated" }, h("label", {}, wanted, ` ${text("operated")}`), " ", h("small", { id: "operated-hint" }, text("operatedHint")));
+    const wanted = h("input", {
+        type: "checkbox",
+        id: "operated",
+        checked: isOperated,
+        "aria-describedby": "operated-hint",
+        onchange: () => { isOperated = wanted.checked; },
+    });
+    return h(
+        "p",
+        { class: "operated" },
+        h("label", {}, wanted, ` ${text("operated")}`),
+        " ",
+        h("small", { id: "operated-hint" }, text("operatedHint"))
+    );
 }
 
 /** The switch of the sound. */
@@ -518,18 +611,41 @@ function makeSoundSwitch() {
     return control;
 }
 
-/** The menu at the top, and the name of the work. It names the example that is open in Work; one that the hall, a story or a lesson shows is not named, so that it can be chosen. */
+/**
+ * The menu at the top, and the name of the work. It names the example that is open in Work; one that the hall, a story or a lesson shows is
+ * not named, so that it can be chosen.
+ */
 function makeBar() {
     const { text } = texts;
-    const choice = h("select", { id: "example", "aria-label": text("openExample"), onchange: () => examples.has(choice.value) && openExample(choice.value) },
+    const choice = h(
+        "select",
+        { id: "example", "aria-label": text("openExample"), onchange: () => examples.has(choice.value) && openExample(choice.value) },
         h("option", { value: "" }, `${text("examples")}: ${text("chooseExample")}`),
-        ...[...examples.keys()].map((name) => h("option", { value: name }, `${name}: ${headOf(exampleNamed(name)).title}`)));
+        ...[...examples.keys()].map((name) => h("option", { value: name }, `${name}: ${headOf(exampleNamed(name)).title}`))
+    );
     const language = h("select", { id: "language", "aria-label": "Language, Sprache", onchange: () => goOnIn(language.value, "language") },
         ...Object.entries(LANGUAGES).map(([code, table]) => h("option", { value: code, selected: code === texts.code }, table.language)));
     const name = h("p", { class: "work-name" });
-    const begins = [behind("work", button(text("new"), openBlank, { id: "new", title: text("newHint") })), behind("work", makeOpen(texts, openDropped)), behind("work", button(text("save"), save, { title: text("saveHint"), id: "save" })),
-        behind("learn work", button(text("share"), () => share({ ...workOf(visitors), id: works.id }), { title: text("shareHint"), id: "share" })), behind("learn work", button(text("works"), showWorks, { id: "works", title: text("worksHint") }))];
-    const menu = makeMenu(texts, [begins, [choice], [makeSoundSwitch(), button(text("kiosk"), openKiosk, { id: "kiosk" }), language], [button(text("about"), about, { id: "about" })]], ["sound", "language"]);
+    const begins = [
+        behind("work", button(text("new"), openBlank, { id: "new", title: text("newHint") })),
+        behind("work", makeOpen(texts, openDropped)),
+        behind("work", button(text("save"), save, { title: text("saveHint"), id: "save" })),
+        behind(
+            "learn work",
+            button(text("share"), () => share({ ...workOf(visitors), id: works.id }), { title: text("shareHint"), id: "share" })
+        ),
+        behind("learn work", button(text("works"), showWorks, { id: "works", title: text("worksHint") }))
+    ];
+    const menu = makeMenu(
+        texts,
+        [
+            begins,
+            [choice],
+            [makeSoundSwitch(), button(text("kiosk"), openKiosk, { id: "kiosk" }), language],
+            [button(text("about"), about, { id: "about" })],
+        ],
+        ["sound", "language"]
+    );
     const show = () => {
         choice.value = placeNow().example ?? "";
         tell(name, ["learn", "work"].includes(door) ? titleOf(laboratory, pupil, sources, texts) : "");
@@ -540,7 +656,12 @@ function makeBar() {
 /** The list of the last works. */
 function showWorks() {
     keepWork();
-    const list = listOfWorks(works, texts, (work) => { list.closest("dialog").close(); openWork(work); }, (work) => { list.closest("dialog").close(); share(work); });
+    const list = listOfWorks(
+        works,
+        texts,
+        (work) => { list.closest("dialog").close(); openWork(work); },
+        (work) => { list.closest("dialog").close(); share(work); }
+    );
     dialog(texts.text("works"), list);
 }
 
@@ -550,18 +671,41 @@ function makeExplanation() {
     const node = part("explanation", text("explanation"), place);
     const showIt = () => {
         node.hidden = laboratory.script === null;
-        if (laboratory.script !== null) place.replaceChildren(...headOf(laboratory.script.lines.join("\n")).paragraphs.map((paragraph) => h("p", {}, paragraph)));
+        if (laboratory.script !== null) {
+            place.replaceChildren(...headOf(laboratory.script.lines.join("\n")).paragraphs.map((paragraph) => h("p", {}, paragraph)));
+        }
     };
     return { node, show: showIt };
 }
 
-/** What the views ask: what is played, what it has not done yet, whether the drum turns too fast to be read, the pace, whether nothing may move, and whether the costs of a word are seen. */
-const showing = { playing, held, markNow, isFast: () => drive.pace === "own" || drive.pace === "fast" || (isKiosk && (exhibit?.isFast ?? false)), pace: () => (isKiosk && exhibit?.pace === 1 ? "own" : drive.pace), isStill: () => still.matches, isAttract: () => exhibit?.isAttract ?? false, hasCosts: () => ["learn", "work"].includes(door) };
+/**
+ * What the views ask: what is played, what it has not done yet, whether the drum turns too fast to be read, the pace, whether nothing may
+ * move, and whether the costs of a word are seen.
+ */
+const showing = {
+    playing,
+    held,
+    markNow,
+    isFast: () => drive.pace === "own" || drive.pace === "fast" || (isKiosk && (exhibit?.isFast ?? false)),
+    pace: () => (isKiosk && exhibit?.pace === 1 ? "own" : drive.pace),
+    isStill: () => still.matches,
+    isAttract: () => exhibit?.isAttract ?? false,
+    hasCosts: () => ["learn", "work"].includes(door),
+};
 
 /** The links to a lesson's sheet; its form is what a printer gets. */
 const sheetOf = (name) => withDrawings((sheets[texts.code] ?? sheets.en)[name], drawings);
-const sheetsOf = (name) => [...linksToSheet(sheetOf(name), texts), ...(name === "where-a-word-costs-least" ? [" ", linkToRace()] : []), " ", linkToProjector(texts, project)];
-const linkToRace = () => h("a", { id: "race", href: addressOf({ game: "race" }, location), onclick: (event) => { event.preventDefault(); openRace(); } }, texts.text("race"));
+const sheetsOf = (name) => [
+    ...linksToSheet(sheetOf(name), texts),
+    ...(name === "where-a-word-costs-least" ? [" ", linkToRace()] : []),
+    " ",
+    linkToProjector(texts, project),
+];
+const linkToRace = () => h(
+    "a",
+    { id: "race", href: addressOf({ game: "race" }, location), onclick: (event) => { event.preventDefault(); openRace(); } },
+    texts.text("race")
+);
 
 /** Whether a lesson is seen as a projector shows it, which the address says. */
 const isProjected = () => !isKiosk && placeNow().lesson != null && askedIn(location).isProjected;
@@ -596,15 +740,50 @@ function printPage(page) {
 function makeWork() {
     const open = { sources, openLink, checker, setUp: openForTask, run: () => drive.go(drive.chosen) };
     const madeTasks = makeTasks(texts, tasks, open);
-    const source = makeSource(laboratory, texts, drafts, { runIt: runProgram, checker, told: () => show(), markNow, stop: () => drive.halt(), given: sourceBeside });
+    const source = makeSource(laboratory, texts, drafts, {
+        runIt: runProgram, checker, told: () => show(), markNow, stop: () => drive.halt(), given: sourceBeside,
+    });
     const time = makeTime(laboratory, texts, showing);
     const turns = makeTurns(laboratory, texts, hasTurns, (isOpen) => { hasTurns = isOpen; });
     const made = {
-        hall: makeHall(texts, goTo, drive), tales: makeTales(laboratory, texts, drive, { open: openShown, viewer, told: toldOfTale, others: [gameButton(false)], after: { name: texts.text("faster"), open: () => openGame("faster") } }), faster: makeGame(), lesson: makeLesson(laboratory, texts, { open: openForStep, pupil, tasks: madeTasks, drafts, told: toldOfLesson, sheets: sheetsOf, isSeen: () => door === "learn" }), tasks: madeTasks,
-        drum: makeDrum(laboratory, texts, showing), plate: makePlate(laboratory, texts), scope: makeScope(laboratory, texts, showing), panel: makePanel(laboratory, texts), console: makeConsole(laboratory, texts),
-        paper: makePaper(laboratory, texts, showing, restOfPaper), sheet: makeSheet(laboratory, texts, pieces, { print: printPage, changed: show }), tape: makeTape(laboratory, texts, drafts, showing), keyboard: makeKeyboard(laboratory, texts, showing),
-        pace: makePace(laboratory, texts, drive, { run: source.run, when: time.when, faults: () => (door === "work" ? source.faults() : null) }), time, operated: makeOperated(), story: makeStory(laboratory, texts, showing), accounts: makeAccounts(laboratory, texts, showing, (account) => parts.story.why(account)), listing: makeListing(laboratory, texts, showing, drafts), costs: makeCosts(laboratory, texts), map: makeMap(laboratory, texts, showing, showCosts),
-        explanation: makeExplanation(), noScript: h("p", { class: "no-script" }, texts.text("noScript")), projector: makeProjector(texts, isProjected, project), script: makeScript(laboratory, texts), source, lines: makeLines(laboratory, texts, drafts),
+        hall: makeHall(texts, goTo, drive),
+        tales: makeTales(laboratory, texts, drive, {
+            open: openShown,
+            viewer,
+            told: toldOfTale,
+            others: [gameButton(false)],
+            after: { name: texts.text("faster"), open: () => openGame("faster") },
+        }),
+        faster: makeGame(),
+        lesson: makeLesson(laboratory, texts, {
+            open: openForStep, pupil, tasks: madeTasks, drafts, told: toldOfLesson, sheets: sheetsOf, isSeen: () => door === "learn",
+        }),
+        tasks: madeTasks,
+        drum: makeDrum(laboratory, texts, showing),
+        plate: makePlate(laboratory, texts),
+        scope: makeScope(laboratory, texts, showing),
+        panel: makePanel(laboratory, texts),
+        console: makeConsole(laboratory, texts),
+        paper: makePaper(laboratory, texts, showing, restOfPaper),
+        sheet: makeSheet(laboratory, texts, pieces, { print: printPage, changed: show }),
+        tape: makeTape(laboratory, texts, drafts, showing),
+        keyboard: makeKeyboard(laboratory, texts, showing),
+        pace: makePace(laboratory, texts, drive, {
+            run: source.run, when: time.when, faults: () => (door === "work" ? source.faults() : null),
+        }),
+        time,
+        operated: makeOperated(),
+        story: makeStory(laboratory, texts, showing),
+        accounts: makeAccounts(laboratory, texts, showing, (account) => parts.story.why(account)),
+        listing: makeListing(laboratory, texts, showing, drafts),
+        costs: makeCosts(laboratory, texts),
+        map: makeMap(laboratory, texts, showing, showCosts),
+        explanation: makeExplanation(),
+        noScript: h("p", { class: "no-script" }, texts.text("noScript")),
+        projector: makeProjector(texts, isProjected, project),
+        script: makeScript(laboratory, texts),
+        source,
+        lines: makeLines(laboratory, texts, drafts),
         profile: makeProfile(laboratory, texts, drafts), turns,
     };
     const turning = turningOf();
@@ -615,7 +794,9 @@ function makeWork() {
     return { node: makeStage(made, texts), made: Object.values(made).filter(({ show }) => show !== undefined) };
 }
 
-/** Writes into the source that words are at other sectors, runs that as long as it ran before, and tells whether it took what was foretold. */
+/**
+ * Writes into the source that words are at other sectors, runs that as long as it ran before, and tells whether it took what was foretold.
+ */
 async function writeMoved(placing, orders, nameOf) {
     const [source, foretold] = [drafts.of("source") ?? laboratory.source, placing.times];
     const words = placing.moved.map((address) => ({ address, sector: placing.sectorOf(address), word: nameOf(address) }));
@@ -633,7 +814,13 @@ async function writeMoved(placing, orders, nameOf) {
     await showCosts(places[0].place);
     // its part was hidden as long as there were no costs
     if (hasFocus) document.getElementById("write-moved").focus();
-    return laboratory.tell({ kind: "moved", words: places, foretold, took: timesOf(again.accounts), waited: { now: again.accounts[0].find, before: accounts[0].find } });
+    return laboratory.tell({
+        kind: "moved",
+        words: places,
+        foretold,
+        took: timesOf(again.accounts),
+        waited: { now: again.accounts[0].find, before: accounts[0].find },
+    });
 }
 
 /** The hand at the drum of the machine that is seen. */
@@ -676,7 +863,9 @@ async function openGameMachine(example, words) {
     return told === null ? null : { ...told, track: machine.track };
 }
 
-const gameButton = (isPressed) => button(texts.text("faster"), () => openGame("faster"), { "data-game-to": "faster", "aria-pressed": String(isPressed) });
+const gameButton = (isPressed) => (
+    button(texts.text("faster"), () => openGame("faster"), { "data-game-to": "faster", "aria-pressed": String(isPressed) })
+);
 
 /** The game, with the buttons that lead to the stories. */
 function makeGame() {
@@ -685,7 +874,13 @@ function makeGame() {
     const lesson = button(text("backToLesson"), () => goTo("learn"), { id: "back-to-lesson" });
     const others = (name) => (name === "race" ? [lesson] : [...stories, gameButton(true)]);
     const keptMoves = { of: () => keeper.of("game"), keep: (moves) => keeper.keep("game", moves) };
-    return new PlacingGameView(texts, { ask: (program) => askGame(program.name, program), kept: keptMoves, isStill: () => still.matches, seconds: asked.seconds ?? 120, others });
+    return new PlacingGameView(texts, {
+        ask: (program) => askGame(program.name, program),
+        kept: keptMoves,
+        isStill: () => still.matches,
+        seconds: asked.seconds ?? 120,
+        others,
+    });
 }
 
 /** Has a game in place of the stories, or, where that is null, these. */
@@ -722,13 +917,20 @@ function toldOfLesson() {
     showSheet(name === undefined ? null : sheetOf(name));
 }
 
-/** What the kiosk opens beside its machine, by the names of its offers: each has its `node`, `open`, `press`, which is given the number of a button and says whether it goes on, and `labels`, the names of its buttons' texts. */
+/**
+ * What the kiosk opens beside its machine, by the names of its offers: each has its `node`, `open`, `press`, which is given the number of a
+ * button and says whether it goes on, and `labels`, the names of its buttons' texts.
+ */
 const kioskViews = { faster: null };
 
 /** A program that runs at the kiosk: drum and typewriter. */
 function makeRunningExhibit() {
     const { pieces: torn } = exhibit;
-    const made = { drum: makeDrum(laboratory, texts, showing), paper: makePaper(laboratory, texts, showing, (text, typed) => torn.rest(text, typed)), deck: makeShownBody(laboratory, texts, showing) };
+    const made = {
+        drum: makeDrum(laboratory, texts, showing),
+        paper: makePaper(laboratory, texts, showing, (text, typed) => torn.rest(text, typed)),
+        deck: makeShownBody(laboratory, texts, showing),
+    };
     for (const node of [made.drum.node, made.paper.node]) node.querySelector("h2").classList.add("unseen");
     return makeRunning(laboratory, texts, exhibit, made, makeOthers());
 }
@@ -736,8 +938,13 @@ function makeRunningExhibit() {
 /** What is at the kiosk, to be taken home: as far as it has come, or else its program before the start. */
 function worksToTake() {
     const { script, lines } = laboratory;
-    const [name, work] = [script?.name ?? null, { door: "work", script, drafts: {}, task: null, source: null, pupil: null, isPaperUp: false }];
-    return { sent: [lines, lines.slice(0, setUp(lines, true))].map((all) => sentOf({ ...work, lines: all.join("\n") }, editionsOf)), name: examples.has(name) ? name : null };
+    const [name, work] = [
+        script?.name ?? null, { door: "work", script, drafts: {}, task: null, source: null, pupil: null, isPaperUp: false },
+    ];
+    return {
+        sent: [lines, lines.slice(0, setUp(lines, true))].map((all) => sentOf({ ...work, lines: all.join("\n") }, editionsOf)),
+        name: examples.has(name) ? name : null,
+    };
 }
 
 /** The small controls of the kiosk, and what they open. */
@@ -748,9 +955,21 @@ function makeOthers() {
 
 function makeExhibit() {
     if (exhibit instanceof Running) return makeRunningExhibit();
-    const made = { drum: makeDrum(laboratory, texts, showing), scope: makeScope(laboratory, texts, showing), heap: makeHeap(laboratory, texts), paper: makePaper(laboratory, texts, showing), deck: makeShownBody(laboratory, texts, showing) };
+    const made = {
+        drum: makeDrum(laboratory, texts, showing),
+        scope: makeScope(laboratory, texts, showing),
+        heap: makeHeap(laboratory, texts),
+        paper: makePaper(laboratory, texts, showing),
+        deck: makeShownBody(laboratory, texts, showing),
+    };
     for (const node of [made.drum.node, made.paper.node]) node.querySelector("h2").classList.add("unseen");
-    kioskViews.faster = new PlacingGameView(texts, { ask: (program) => askGame(program.name, program), kept: { of: () => null, keep: () => {} }, isStill: () => still.matches, seconds: Infinity, others: () => [] });
+    kioskViews.faster = new PlacingGameView(texts, {
+        ask: (program) => askGame(program.name, program),
+        kept: { of: () => null, keep: () => {} },
+        isStill: () => still.matches,
+        seconds: Infinity,
+        others: () => [],
+    });
     if (exhibit.state === "faster") kioskViews.faster.open();
     return makeKiosk(laboratory, texts, { ...showing, drive }, exhibit, made, makeOthers(), kioskViews);
 }
@@ -758,7 +977,17 @@ function makeExhibit() {
 function makePage() {
     const { text } = texts;
     const top = makeBar();
-    const heading = h("header", {}, behind("look learn work", makeSkip(texts)), h("h1", {}, text("title")), h("p", { class: "subtitle" }, text("subtitle")), top.name, makeDoors(texts, goTo), top.menu.control, top.menu.list);
+    const heading = h(
+        "header",
+        {},
+        behind("look learn work", makeSkip(texts)),
+        h("h1", {}, text("title")),
+        h("p", { class: "subtitle" }, text("subtitle")),
+        top.name,
+        makeDoors(texts, goTo),
+        top.menu.control,
+        top.menu.list
+    );
     const { node, made } = makeWork();
     return { nodes: [heading, node], views: [top, ...made] };
 }
@@ -775,7 +1004,13 @@ function makeAll() {
 function place(made) {
     document.body.className = isKiosk ? "kiosk" : "";
     placeNotices(null);
-    const actions = { run: () => drive.go(isKiosk ? "fast" : drive.chosen), save, anew: () => (isKiosk ? exhibit.attract() : openBlank()), linkTo: (lines) => linkTo(withoutQuestions(lines, laboratory.questions)), goBack: (id) => openWork(works.of(id)) };
+    const actions = {
+        run: () => drive.go(isKiosk ? "fast" : drive.chosen),
+        save,
+        anew: () => (isKiosk ? exhibit.attract() : openBlank()),
+        linkTo: (lines) => linkTo(withoutQuestions(lines, laboratory.questions)),
+        goBack: (id) => openWork(works.of(id)),
+    };
     notices = makeNotices(laboratory, texts, isKiosk, actions);
     views = [...made.views, follow(laboratory, sound, showing)];
     picture.views = views.filter(({ frame }) => frame !== undefined);
@@ -806,22 +1041,42 @@ async function layInTurns() {
 function layFor(id) {
     const hadFocus = document.activeElement !== document.body;
     lay();
-    if (hadFocus) [document.getElementById(id), document.querySelector(".menu"), document.querySelector(".doors [aria-current]")].find((it) => it?.checkVisibility())?.focus();
+    if (hadFocus) {
+        [
+            document.getElementById(id), document.querySelector(".menu"), document.querySelector(".doors [aria-current]"),
+        ].find((it) => it?.checkVisibility())?.focus();
+    }
 }
 
 /** What an exhibit needs of the page. `home` leads back to the screen on which it was chosen. */
-const kioskSettings = (home = null) => ({ scriptOf: (name) => (examples.has(name) ? exampleNamed(name) : undefined), isStill: () => still.matches, ...clocks, home, language: () => goOnIn(texts.code === "de" ? "en" : "de", "kiosk-4") });
+const kioskSettings = (home = null) => (
+    {
+        scriptOf: (name) => (examples.has(name) ? exampleNamed(name) : undefined),
+        isStill: () => still.matches,
+        ...clocks,
+        home,
+        language: () => goOnIn(texts.code === "de" ? "en" : "de", "kiosk-4"),
+    }
+);
 
 /** The story of an example, with its games. */
 const storyOf = (name, offers, home = null) => new Exhibit(laboratory, drive, name, { ...kioskSettings(home), offers, views: kioskViews });
 
 /** What is offered at the kiosk after its exhibits, each with the button of its story that begins it. */
-const OTHERS = [{ name: "story", label: "kioskStory", press: 1 }, { name: "faster", label: "kioskFaster", press: 2 }, { name: "matches", label: "kioskMatches", press: 3 }, { name: "language", label: "kioskLanguage" }];
+const OTHERS = [
+    { name: "story", label: "kioskStory", press: 1 },
+    { name: "faster", label: "kioskFaster", press: 2 },
+    { name: "matches", label: "kioskMatches", press: 3 },
+    { name: "language", label: "kioskLanguage" },
+];
 
 /** The screen on which an exhibit is chosen. */
 const choiceOfAll = () => new Choice(laboratory, drive, { files: exhibits, others: OTHERS, open: openChosen }, kioskSettings());
 
-/** What the address asks the kiosk for: an exhibit that it has in itself, one of the page's, the story of an example, or, where it names none, the screen on which one is chosen. */
+/**
+ * What the address asks the kiosk for: an exhibit that it has in itself, one of the page's, the story of an example, or, where it names
+ * none, the screen on which one is chosen.
+ */
 function exhibitAsked() {
     const { exhibit: file, example, offers } = asked;
     const own = file === null ? null : exhibitIn(file, (name) => examples.has(name));
@@ -842,7 +1097,11 @@ function turnKioskTo(made) {
 function openChosen(name) {
     if (name === "language") return kioskSettings().language();
     const home = () => { turnKioskTo(choiceOfAll()); return exhibit.attract(); };
-    turnKioskTo(exhibits.has(name) ? new Running(laboratory, drive, exhibits.get(name), kioskSettings(home)) : storyOf(name === "story" ? HALL_EXAMPLE : KIOSK.example, null, home));
+    turnKioskTo(
+        exhibits.has(name)
+            ? new Running(laboratory, drive, exhibits.get(name), kioskSettings(home))
+            : storyOf(name === "story" ? HALL_EXAMPLE : KIOSK.example, null, home)
+    );
     return exhibit.press(OTHERS.find((other) => other.name === name)?.press ?? 1);
 }
 
@@ -851,7 +1110,11 @@ async function beginExhibit() {
     await use("shown");
     turnKioskTo(exhibitAsked());
     const own = texts;
-    const endWatch = watchIdle(asked.idleSeconds ?? KIOSK.idleSeconds, () => { if (!exhibit.isAttract || texts !== own) returnToBeginning(own); }, ({ type, target }) => { if (type === "click" && target.closest("button") === null) exhibit.takeOver(); });
+    const endWatch = watchIdle(
+        asked.idleSeconds ?? KIOSK.idleSeconds,
+        () => { if (!exhibit.isAttract || texts !== own) returnToBeginning(own); },
+        ({ type, target }) => { if (type === "click" && target.closest("button") === null) exhibit.takeOver(); }
+    );
     const endRefusing = refuseOthers();
     endExhibit = () => { endWatch(); endRefusing(); exhibit.leave(); exhibit = null; endExhibit = () => {}; };
     const wrong = asked.exhibit === null ? null : exhibitIn(asked.exhibit, (name) => examples.has(name)).wrong;
@@ -891,7 +1154,17 @@ function onWorkKey(event) {
     const { card, run } = parts.source;
     const { sheet } = parts;
     const name = [event.ctrlKey ? "Ctrl" : "", event.shiftKey ? "Shift" : "", event.key].filter((part) => part !== "").join(" ");
-    const action = { F1: card.toggle, "Ctrl Enter": () => run.click(), F10: () => drive.step(), "Shift F10": () => laboratory.back(1), F4: () => sheet.toggle(), ...(sheet.isUp ? { Escape: () => sheet.escape() } : card.isOpen() ? { Escape: card.close } : drive.pace === null ? {} : { Escape: () => drive.halt() }) }[name];
+    const action = {
+        F1: card.toggle,
+        "Ctrl Enter": () => run.click(),
+        F10: () => drive.step(),
+        "Shift F10": () => laboratory.back(1),
+        F4: () => sheet.toggle(),
+        ...(sheet.isUp ? { Escape: () => sheet.escape() }
+            : card.isOpen() ? { Escape: card.close }
+            : drive.pace === null ? {}
+            : { Escape: () => drive.halt() }),
+    }[name];
     if (action === undefined || event.defaultPrevented || event.target.closest("dialog") !== null) return false;
     event.preventDefault();
     action();
@@ -911,7 +1184,10 @@ function onKey(event) {
     if (event.target.closest("input, .CodeMirror, select, dialog") || event.ctrlKey || event.altKey || event.metaKey) return;
     const go = (pace) => () => { drive.chosen = pace; drive.go(pace); };
     const [order, fast] = [go("order"), go("fast")];
-    const action = { s: () => drive.step(), w: order, r: fast, h: () => drive.halt(), "[": () => laboratory.back(1), "]": () => laboratory.forward(1), 1: order, 2: go("slow"), 3: go("own"), 4: fast }[event.key];
+    const action = {
+        s: () => drive.step(), w: order, r: fast, h: () => drive.halt(), "[": () => laboratory.back(1), "]": () => laboratory.forward(1),
+        1: order, 2: go("slow"), 3: go("own"), 4: fast,
+    }[event.key];
     if (action !== undefined && hasShortKeys) action();
 }
 
@@ -951,7 +1227,11 @@ function isThere({ lesson, step, task, story, caption, game, script, work, examp
     if (game !== now.game) return false;
     if (story !== null) return now.story === story && now.caption === (caption ?? 1);
     if (lesson !== null) return now.lesson === lesson && now.step === (step ?? 1);
-    return script === null && work === null && (now.task ?? null) === task && (now.lesson ?? null) === null && (example ?? null) === (now.example ?? null);
+    return script === null
+        && work === null
+        && (now.task ?? null) === task
+        && (now.lesson ?? null) === null
+        && (example ?? null) === (now.example ?? null);
 }
 
 /** The address has changed: Back, Forward, or a link. The page goes there. */
@@ -1016,7 +1296,10 @@ async function goOnWith(work, isThereAgain) {
     await layInTurns();
     if (isLong) offer(work);
     if (door === "hall") return openHall();
-    return wrongIn(asked) === null && (isThere(asked) || asked.door === "work" && asked.example === null && asked.script === null && asked.work === null) ? parts.lesson.goOn() : openAsked();
+    return wrongIn(asked) === null
+        && (isThere(asked) || asked.door === "work" && asked.example === null && asked.script === null && asked.work === null)
+        ? parts.lesson.goOn()
+        : openAsked();
 }
 
 /** Offers a work that is kept. */

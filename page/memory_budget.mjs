@@ -1,11 +1,14 @@
 // How much of the module's memory a session may take. The module is not asked for its free room: what is counted is what takes the memory,
-// the bytes of the lines that its transcript keeps, and the codes that it has printed. The bounds leave room to spare for what `transcript`,
+// the bytes of the lines that its transcript keeps, and the codes that it has printed. The bounds leave room to spare for what
+// `transcript`,
 // `printed`, a source and a told run need for a moment; page/tests/memory_budget.test.mjs fills a session up to them, and asks all that.
 
 import { commandIn } from "./lines.mjs";
 
-/** The bytes of lines and the codes that a session may reach; how many codes short of that no more is begun; the codes after which a run asks; the
- * most orders that one line tells, and the most signs of a source that is sent at once. */
+/**
+ * The bytes of lines and the codes that a session may reach; how many codes short of that no more is begun; the codes after which a run
+ * asks; the most orders that one line tells, and the most signs of a source that is sent at once.
+ */
 export const LIMITS = { lines: 3_000_000, codes: 1_000_000, last: 10_000, asksAfter: 20_000, told: 10_000, source: 1_500_000 };
 
 const PERFORMS = /^ *(?:json +)?(run|orders|operate|profile|trace|drum|optimum|profile-data|trace-data|optimum-data) +(\d+)(?: +\S+)? *$/;

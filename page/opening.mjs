@@ -1,4 +1,5 @@
-// The page's address: what it asks for, and what it says of where one is. An example or a script, a work that somebody has sent, a lesson and its step, a task, a story and its caption, a game, a language, a door, the kiosk.
+// The page's address: what it asks for, and what it says of where one is. An example or a script, a work that somebody has sent, a lesson
+// and its step, a task, a story and its caption, a game, a language, a door, the kiosk.
 
 const DOORS = ["hall", "look", "learn", "work"];
 const PLACES = ["door", "kiosk", "exhibit", "idle", "offers", "lesson", "step", "task", "story", "caption", "game"];
@@ -15,8 +16,11 @@ function doorOf(query, hasScript) {
     return hasScript ? "work" : "hall";
 }
 
-/** What an address says after `?` and `#`: `?kiosk`, `?kiosk=games/matches`, `?idle=60`, `?offers=story,matches`, `?lang=de`, `?door=work`, `?lesson=rewriting&step=9`, `?lesson=rewriting&projector`, `?task=sum`, `?story=2&caption=3`, `?game=faster`, `#first-run`,
- * `#kiosk`, `#kiosk=weather`, `#exhibit=..`, `#script=..`, `#work=..`. */
+/**
+ * What an address says after `?` and `#`: `?kiosk`, `?kiosk=games/matches`, `?idle=60`, `?offers=story,matches`, `?lang=de`, `?door=work`,
+ * `?lesson=rewriting&step=9`, `?lesson=rewriting&projector`, `?task=sum`, `?story=2&caption=3`, `?game=faster`, `#first-run`, `#kiosk`,
+ * `#kiosk=weather`, `#exhibit=..`, `#script=..`, `#work=..`.
+ */
 export function askedIn({ search, hash }) {
     const query = new URLSearchParams(search);
     const behind = decoded(hash.replace(/^#/, ""));
@@ -28,7 +32,8 @@ export function askedIn({ search, hash }) {
         isKiosk, script, work, exhibit,
         example: query.get("kiosk") || example || null,
         language: query.get("lang"),
-        isProjected: query.has("projector"), lesson: query.get("lesson"), step: numberIn(query, "step"), task: query.get("task"), story: numberIn(query, "story"), caption: numberIn(query, "caption"), game: query.get("game"), seconds: numberIn(query, "seconds"),
+        isProjected: query.has("projector"), lesson: query.get("lesson"), step: numberIn(query, "step"), task: query.get("task"),
+        story: numberIn(query, "story"), caption: numberIn(query, "caption"), game: query.get("game"), seconds: numberIn(query, "seconds"),
         door: doorOf(query, (example !== null && named === null) || script !== null || work !== null),
         idleSeconds: Number(query.get("idle")) || null, offers: query.get("offers")?.split(",") ?? null,
     };
@@ -38,7 +43,12 @@ export function askedIn({ search, hash }) {
 export function addressOf({ door, kiosk, lesson, step, task, story, caption, game, example }, { search }) {
     const query = new URLSearchParams(search);
     for (const name of PLACES) query.delete(name);
-    const place = kiosk !== undefined ? { kiosk } : lesson != null ? { lesson, step } : task != null ? { task } : story != null ? { story, caption } : game != null ? { game } : { door };
+    const place = kiosk !== undefined ? { kiosk }
+        : lesson != null ? { lesson, step }
+        : task != null ? { task }
+        : story != null ? { story, caption }
+        : game != null ? { game }
+        : { door };
     for (const [name, value] of Object.entries(place)) query.set(name, value);
     return `?${query.toString().replaceAll("%2F", "/")}${example == null ? "" : `#${example}`}`;
 }

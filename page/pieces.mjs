@@ -1,7 +1,11 @@
-// Pieces of the typewriter's paper: their rows, which rows two of them share, what is typed to type a row again, and those that were torn off. Nothing here knows of a page.
+// Pieces of the typewriter's paper: their rows, which rows two of them share, what is typed to type a row again, and those that were torn
+// off. Nothing here knows of a page.
 import { STOP, piecesOf, shownKeys } from "./flexowriter.mjs";
 
-/** After how many columns a row goes on in the next one; how many rows beside those in view are nodes; and how many pieces and signs are kept at most. */
+/**
+ * After how many columns a row goes on in the next one; how many rows beside those in view are nodes; and how many pieces and signs are
+ * kept at most.
+ */
 const [WIDEST, AROUND] = [100, 20];
 const MOST = { pieces: 12, signs: 1_000_000 };
 
@@ -11,7 +15,10 @@ const brokenRows = (line) => line.match(new RegExp(`.{1,${WIDEST}}`, "gu")) ?? [
 export function rowsOf(text, typed) {
     const rows = [{ text: "", isTyped: false }];
     for (const { printed, typed: keys, isLine } of piecesOf(text, typed)) {
-        if (keys !== undefined && isLine) rows.splice(rows.at(-1).text === "" ? -1 : rows.length, 1, { text: shownKeys(keys), isTyped: true }, { text: "", isTyped: false });
+        if (keys !== undefined
+            && isLine) rows.splice(
+                rows.at(-1).text === "" ? -1 : rows.length, 1, { text: shownKeys(keys), isTyped: true }, { text: "", isTyped: false }
+            );
         else {
             const [first, ...others] = (printed ?? shownKeys(keys)).split("\n");
             rows.at(-1).text += first;
@@ -32,8 +39,10 @@ export const typedAgain = ({ text }) => (text.match(NUMBER) ?? []).map((number) 
 
 const firstOf = ({ text, isTyped }) => (isTyped ? null : /^ *([-+]?\d+)/.exec(text)?.[1] ?? null);
 
-/** Which rows of two pieces stand side by side: those that begin with the same number, in the order of both. Each pair has its two rows, or null where one piece has none; how many pairs are whole, and the first
- * number after which the rows are not the same. */
+/**
+ * Which rows of two pieces stand side by side: those that begin with the same number, in the order of both. Each pair has its two rows, or
+ * null where one piece has none; how many pairs are whole, and the first number after which the rows are not the same.
+ */
 export function sideBySide(left, right) {
     const places = new Map(right.map((row, at) => [firstOf(row), at]).filter(([number]) => number !== null).reverse());
     const pairs = [];
@@ -74,7 +83,10 @@ export class Pieces {
         this.#kept = kept;
     }
 
-    /** How much of the text of the machine's paper was torn off, and how much of what was typed; and the pieces, each with its number, when it was torn off, its text and what was typed. */
+    /**
+     * How much of the text of the machine's paper was torn off, and how much of what was typed; and the pieces, each with its number, when
+     * it was torn off, its text and what was typed.
+     */
     get all() {
         return { torn: 0, typedTorn: 0, pieces: [], ...JSON.parse(this.#kept.of() ?? "{}") };
     }
@@ -85,14 +97,23 @@ export class Pieces {
         if (torn > 0) this.#kept.keep(JSON.stringify({ torn: 0, typedTorn: 0, pieces }));
     }
 
-    /** What of a paper is still in the machine. Where less was printed than was torn off, the machine is another one, or has gone back: all of it is. */
+    /**
+     * What of a paper is still in the machine. Where less was printed than was torn off, the machine is another one, or has gone back: all
+     * of it is.
+     */
     rest(text, typed) {
         const { torn, typedTorn } = this.all;
         if (torn > text.length) return { text, typed };
-        return { text: text.slice(torn), typed: typed.slice(typedTorn).filter(({ at }) => at >= torn).map(({ at, keys }) => ({ at: at - torn, keys })) };
+        return {
+            text: text.slice(torn),
+            typed: typed.slice(typedTorn).filter(({ at }) => at >= torn).map(({ at, keys }) => ({ at: at - torn, keys })),
+        };
     }
 
-    /** Tears off what is in the machine. Gives the oldest piece where that is one too many, which is not kept any more; else null; undefined where there is nothing to tear off. */
+    /**
+     * Tears off what is in the machine. Gives the oldest piece where that is one too many, which is not kept any more; else null; undefined
+     * where there is nothing to tear off.
+     */
     tear(text, typed, at) {
         const { pieces } = this.all;
         const rest = this.rest(text, typed);

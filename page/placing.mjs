@@ -1,4 +1,5 @@
-// Words of a run at other sectors. What the same orders would then have taken are sums of the monitor's own numbers; how long each order alone would have waited is worked out to be drawn,
+// Words of a run at other sectors. What the same orders would then have taken are sums of the monitor's own numbers; how long each order
+// alone would have waited is worked out to be drawn,
 // and is right only where its sum is that number. Nothing here knows of a page.
 import { PLACES, SECTORS, addressOf, numberOf, sectorOf } from "./addresses.mjs";
 import { columnOf, tokensOf } from "./language.mjs";
@@ -13,7 +14,10 @@ export class Placing {
     #sectors = new Map();
     #times;
 
-    /** `accounts` are those of the run's orders, none where they are too many, and `words` what the monitor says of each word: what the orders would have taken with it at each sector. */
+    /**
+     * `accounts` are those of the run's orders, none where they are too many, and `words` what the monitor says of each word: what the
+     * orders would have taken with it at each sector.
+     */
     constructor(accounts, words) {
         Object.assign(this, { accounts, words });
         this.#times = new Map(words.map(({ address, sectors }) => [address, new Map(sectors.map(({ sector, times }) => [sector, times]))]));
@@ -72,7 +76,10 @@ export class Placing {
         return this.took - this.words.reduce((sum, { saved }) => sum + saved, 0);
     }
 
-    /** The orders with the words where they are, each with its waits; none where these are not known, or where their sum is not what the orders would take. */
+    /**
+     * The orders with the words where they are, each with its waits; none where these are not known, or where their sum is not what the
+     * orders would take.
+     */
     get drawn() {
         const drawn = elsewhere(this.accounts, (address) => this.sectorOf(address));
         return timesOf(drawn) === this.times ? drawn : [];
@@ -88,8 +95,10 @@ export function freePlace(sector, taken) {
 
 const operationIn = (line) => tokensOf(line).find(({ kind }) => kind === "operation")?.text;
 
-/** A source with a word at another place: by an `org` before it, and one after it, so that the words after it stay where they are. `said` is what a laboratory says of the source. An `org`
- * that is there for this word alone is changed. */
+/**
+ * A source with a word at another place: by an `org` before it, and one after it, so that the words after it stay where they are. `said` is
+ * what a laboratory says of the source. An `org` that is there for this word alone is changed.
+ */
 export function withWordAt(source, said, address, place) {
     const lines = linesIn(source);
     const at = said.lineAt(address) - 1;
@@ -101,8 +110,11 @@ export function withWordAt(source, said, address, place) {
     return [...before, lines[at], ...next, ...lines.slice(at + 1)].join("\n");
 }
 
-/** A source with a word at a free place of another sector, and that place; or what is wrong: it has faults, it has no line for the word or for an order that names it, no place is free, or the
- * order at an address does not name the word by its label. `checker` says what a laboratory says of a source, and `accounts` are those of the orders that were performed. */
+/**
+ * A source with a word at a free place of another sector, and that place; or what is wrong: it has faults, it has no line for the word or
+ * for an order that names it, no place is free, or the order at an address does not name the word by its label. `checker` says what a
+ * laboratory says of a source, and `accounts` are those of the orders that were performed.
+ */
 async function withOneMoved(checker, source, accounts, address, sector) {
     const said = await checker.ask(source);
     if (!said?.isRight) return { wrong: "faulty" };
@@ -118,8 +130,11 @@ async function withOneMoved(checker, source, accounts, address, sector) {
     return unmoved === undefined ? { text, place } : { wrong: "byNumber", unmoved };
 }
 
-/** A source with words at free places of other sectors, one after another, and these words with their places; or the word with which something is wrong, and what, with the line of an order that
- * does not name it by its label. Each of the `words` has its `address` and the `sector`. */
+/**
+ * A source with words at free places of other sectors, one after another, and these words with their places; or the word with which
+ * something is wrong, and what, with the line of an order that does not name it by its label. Each of the `words` has its `address` and the
+ * `sector`.
+ */
 export async function movedSource(checker, source, accounts, words) {
     let [text, places] = [source, []];
     for (const it of words) {

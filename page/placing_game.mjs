@@ -2,14 +2,18 @@
 import { SECTORS, sectorOf } from "./addresses.mjs";
 import { Placing } from "./placing.mjs";
 
-/** The programs: the example of each, where its loop begins, and the words that are moved; their names, where the example has none for them. */
+/**
+ * The programs: the example of each, where its loop begins, and the words that are moved; their names, where the example has none for them.
+ */
 export const PROGRAMS = [
     { name: "sum", example: "self-modifying", loop: "0008", words: ["0021", "0022", "0024"], names: ["last", "one", "sum"] },
     { name: "root", example: "square-root", loop: "0000", words: ["0009", "0010", "0011"] },
     { name: "household", example: "drum/household", loop: "0110", words: ["0128", "0129", "0130", "0131", "0132"] },
 ];
 
-/** The games by their names in an address, each with the programs that it leads through: the one of the lesson begins with a single word. */
+/**
+ * The games by their names in an address, each with the programs that it leads through: the one of the lesson begins with a single word.
+ */
 export const PLACING_GAMES = new Map([["faster", PROGRAMS], ["race", [{ ...PROGRAMS[2], name: "wage", words: ["0128"] }, PROGRAMS[2]]]]);
 
 const BLANK = "00000000";
@@ -35,7 +39,10 @@ export class PlacingGame {
     #track = new Map();
 
     open(program, { accounts, words, track }) {
-        Object.assign(this, { program, placing: new Placing(accounts, words), picked: program.words[0], isWhy: false, watched: null, tried: new Map() });
+        Object.assign(
+            this,
+            { program, placing: new Placing(accounts, words), picked: program.words[0], isWhy: false, watched: null, tried: new Map() }
+        );
         this.#round = roundIn(accounts, program.loop);
         this.#track = new Map(track.map(({ address, text }) => [sectorOf(address), text]));
         this.#left = null;
@@ -55,7 +62,10 @@ export class PlacingGame {
         return drawn;
     }
 
-    /** How a word misses an order that uses it, of the order that waits longest for it: by how many places it has gone by before the order is taken, or comes after the next order has; null where that is not known. */
+    /**
+     * How a word misses an order that uses it, of the order that waits longest for it: by how many places it has gone by before the order
+     * is taken, or comes after the next order has; null where that is not known.
+     */
     missOf(address) {
         const { round } = this;
         const misses = round.flatMap(({ account }, place) => {
@@ -65,7 +75,9 @@ export class PlacingGame {
             return [{ isEarly, at: account.at, order: account.order, waits: Math.max(account.seek, next.find) }];
         });
         const [worst] = misses.sort((one, other) => other.waits - one.waits);
-        return worst === undefined ? null : { isEarly: worst.isEarly, at: worst.at, letter: worst.order[0], places: Math.max(1, SECTORS + 1 - worst.waits) };
+        return worst === undefined
+            ? null
+            : { isEarly: worst.isEarly, at: worst.at, letter: worst.order[0], places: Math.max(1, SECTORS + 1 - worst.waits) };
     }
 
     nameOf(address) {
@@ -105,7 +117,10 @@ export class PlacingGame {
         const { placing, program: { words } } = this;
         const before = this.#left;
         this.#left = before === null ? words.map((address) => [address, placing.sectorOf(address)]) : null;
-        for (const [address, sector] of before ?? words.map((it) => [it, placing.isBest(it) ? placing.sectorOf(it) : placing.bestOf(it)[0]])) placing.move(address, sector);
+        for (const [address, sector] of before
+            ?? words.map((it) => [it, placing.isBest(it) ? placing.sectorOf(it) : placing.bestOf(it)[0]])) {
+            placing.move(address, sector);
+        }
     }
 
     /** Where the player's words are, and which one is picked, to be kept; and what was kept. */

@@ -1,4 +1,5 @@
-// Plays an order from its account: the monitor has done it at once, and here its word times pass one after another. Nothing here knows of a page.
+// Plays an order from its account: the monitor has done it at once, and here its word times pass one after another. Nothing here knows of a
+// page.
 import { PLACES, addressOf, bareOrder, numberOf } from "./addresses.mjs";
 
 /** The phases of an order, one after another. */
@@ -14,7 +15,10 @@ const after = (address) => addressOf((numberOf(address) + 1) % PLACES);
 
 /** The clock within one order, as far as it is shown. */
 export class Player {
-    /** How many word times pass in a second, how many times faster an act of more than a turn passes, and whether nothing may move but from picture to picture. */
+    /**
+     * How many word times pass in a second, how many times faster an act of more than a turn passes, and whether nothing may move but from
+     * picture to picture.
+     */
     pace = 32;
     hurry = 1;
     isStill = false;
@@ -25,7 +29,9 @@ export class Player {
     #waited = 0;
     #isHeld = false;
 
-    /** Begins with an order. What the register held before it is known where it was seen, or from the order before, where that was played. */
+    /**
+     * Begins with an order. What the register held before it is known where it was seen, or from the order before, where that was played.
+     */
     play(account) {
         this.#before = account.registerBefore ?? this.#account?.register ?? null;
         this.#account = account;
@@ -89,8 +95,11 @@ export class Player {
         this.#account = null;
     }
 
-    /** Where the order is that is played: the word times that have passed in it, its phase, how many there are to go until the head reads what is waited for, what counter, register and
-     * accumulator hold by now, how many codes are still to pass in the reader, and whether its act passes faster than it does. Null where none is played. */
+    /**
+     * Where the order is that is played: the word times that have passed in it, its phase, how many there are to go until the head reads
+     * what is waited for, what counter, register and accumulator hold by now, how many codes are still to pass in the reader, and whether
+     * its act passes faster than it does. Null where none is played.
+     */
     at() {
         const account = this.#account;
         if (account === null) return null;
@@ -101,7 +110,12 @@ export class Player {
         const phase = PHASES[ends.findIndex(isIn)] ?? "act";
         const counted = account.at === null ? null : after(account.at);
         return {
-            account, offset, done, phase, isHeld: this.#isHeld, left: phase === "find" || phase === "seek" ? ends[PHASES.indexOf(phase)] - offset : 0,
+            account,
+            offset,
+            done,
+            phase,
+            isHeld: this.#isHeld,
+            left: phase === "find" || phase === "seek" ? ends[PHASES.indexOf(phase)] - offset : 0,
             counter: done ? account.next ?? counted : isTaken ? counted : account.at,
             register: isTaken ? account.register ?? null : this.#before,
             accumulator: done ? account.after : account.before, codes: this.#codesToCome(), isHurried: this.#speedOfAct() > this.pace,
@@ -109,15 +123,25 @@ export class Player {
     }
 }
 
-/** Which order is under way, and all that follows from that for what shows it, so that list, pins, register, hub and caption speak of the same one: the place of the order and how it is written, its phase, the
- * place that comes after it, and the place of its word. Before an order is taken nobody knows what it names, and what comes after it is itself; between two orders the last one is there as `done`; before the
- * first there is none. `played` is what a player tells, or null, and `last` the order that was told last, or null where another one may have been performed since. */
+/**
+ * Which order is under way, and all that follows from that for what shows it, so that list, pins, register, hub and caption speak of the
+ * same one: the place of the order and how it is written, its phase, the place that comes after it, and the place of its word. Before an
+ * order is taken nobody knows what it names, and what comes after it is itself; between two orders the last one is there as `done`; before
+ * the first there is none. `played` is what a player tells, or null, and `last` the order that was told last, or null where another one may
+ * have been performed since.
+ */
 export function markAt({ played, last, panel }) {
     if (played !== null && !played.done) {
         const { account, phase, counter } = played;
         const isTaken = phase === "seek" || phase === "act";
-        return { now: account.at, order: bareOrder(account.order), phase, coming: isTaken ? counter : null, operand: isTaken ? account.word : null, isWritten: false };
+        return {
+            now: account.at, order: bareOrder(account.order), phase, coming: isTaken ? counter : null,
+            operand: isTaken ? account.word : null, isWritten: false,
+        };
     }
     if (last === null) return { now: null, order: null, phase: null, coming: panel.counter, operand: null, isWritten: false };
-    return { now: last.at, order: bareOrder(last.order), phase: "done", coming: panel.counter, operand: last.word, isWritten: last.stored !== null };
+    return {
+        now: last.at, order: bareOrder(last.order), phase: "done", coming: panel.counter, operand: last.word,
+        isWritten: last.stored !== null,
+    };
 }

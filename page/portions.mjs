@@ -1,17 +1,24 @@
 // Runs are done in portions, so that Stop is heard, and so that no more is printed than memory holds and a reader wants.
 import { LIMITS } from "./memory_budget.mjs";
 
-/** The orders of a first portion and of the least one, the runs of these by `operate`, the most orders, and how long a portion should take. */
+/**
+ * The orders of a first portion and of the least one, the runs of these by `operate`, the most orders, and how long a portion should take.
+ */
 const PORTION = { first: { run: 20_000, operate: 100 }, least: { run: 20_000, operate: 100 }, most: 50_000_000, milliseconds: 50 };
 
-/** The size of the next portion, so that it takes its time, neither growing nor shrinking by more than four times. It never has fewer orders than `least` says: beside other work they take long, but fewer would bring the
- * machine to a stand. */
+/**
+ * The size of the next portion, so that it takes its time, neither growing nor shrinking by more than four times. It never has fewer orders
+ * than `least` says: beside other work they take long, but fewer would bring the machine to a stand.
+ */
 export function nextPortion(size, took, verb = "run") {
     const factor = Math.min(4, Math.max(0.25, PORTION.milliseconds / Math.max(took, 1)));
     return Math.min(PORTION.most, Math.max(PORTION.least[verb], Math.round(size * factor)));
 }
 
-/** How many orders may be performed at once where a run is to ask after its codes: as many as print no more than are left, if they print as those before did. */
+/**
+ * How many orders may be performed at once where a run is to ask after its codes: as many as print no more than are left, if they print as
+ * those before did.
+ */
 export function ordersUntilAsked(orders, codes) {
     return codes === 0 ? Infinity : Math.max(1, Math.ceil(((LIMITS.asksAfter - codes) * orders) / codes));
 }
@@ -19,7 +26,10 @@ export function ordersUntilAsked(orders, codes) {
 /** How often a run under way is told of, in milliseconds. */
 const TELL_EVERY = 250;
 
-/** A run in portions: how many orders since Start was last pressed, how often it was pressed, why it has ended, by a rule perhaps, and where the monitor has refused a portion, its reply. */
+/**
+ * A run in portions: how many orders since Start was last pressed, how often it was pressed, why it has ended, by a rule perhaps, and where
+ * the monitor has refused a portion, its reply.
+ */
 export class Run {
     orders = 0;
     starts = 0;
@@ -81,7 +91,10 @@ export class Run {
         if (end === "rest" && this.#isOperated && (verb === "run" || starts === size)) this.end = "limit";
     }
 
-    /** This many codes were printed when the paper was looked at last. The run ends where they are too many, and the next portion has as many orders as may print what is left. */
+    /**
+     * This many codes were printed when the paper was looked at last. The run ends where they are too many, and the next portion has as
+     * many orders as may print what is left.
+     */
     watched(budget, count) {
         const unasked = budget.codesAtMost - count;
         const known = ordersUntilAsked(this.#performed - unasked, count - this.printed) - unasked;

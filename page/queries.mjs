@@ -1,4 +1,5 @@
-// Queries about the machine. Each is made of questions that leave no trace in the transcript, so that what is saved are the reader's lines alone.
+// Queries about the machine. Each is made of questions that leave no trace in the transcript, so that what is saved are the reader's lines
+// alone.
 import { SECTORS, addressOf } from "./addresses.mjs";
 import { kindsIn } from "./kinds.mjs";
 import { linesIn } from "./lines.mjs";
@@ -73,7 +74,10 @@ export class Queries {
     }
 }
 
-/** What a reply of `optimum-data` tells of one word, with the sectors in the order in which they pass the head, none where the orders took as long with the word at any; and why its run was refused, where that was so. */
+/**
+ * What a reply of `optimum-data` tells of one word, with the sectors in the order in which they pass the head, none where the orders took
+ * as long with the word at any; and why its run was refused, where that was so.
+ */
 export function costsIn(reply) {
     const { told, end } = replies.reportOf(reply);
     const { own, best, numbers, ...costs } = replies.costsOf(told);
@@ -97,5 +101,8 @@ export function rowsIn(accounts) {
     const before = Number(accounts[0].clock % BigInt(SECTORS));
     const signs = " ".repeat(before) + accounts.map(signsOf).join("");
     const first = accounts[0].clock - BigInt(before);
-    return Array.from({ length: Math.ceil(signs.length / SECTORS) }, (unused, turn) => ({ clock: first + BigInt(SECTORS * turn), signs: signs.slice(SECTORS * turn, SECTORS * (turn + 1)) }));
+    return Array.from(
+        { length: Math.ceil(signs.length / SECTORS) },
+        (unused, turn) => ({ clock: first + BigInt(SECTORS * turn), signs: signs.slice(SECTORS * turn, SECTORS * (turn + 1)) })
+    );
 }

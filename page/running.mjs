@@ -1,25 +1,36 @@
-// An exhibit of the kiosk that runs a program: it goes through the scenes of its file, does at the machine what they say, and tells what they tell when the machine has come to it. What it shows of the machine are replies
+// An exhibit of the kiosk that runs a program: it goes through the scenes of its file, does at the machine what they say, and tells what
+// they tell when the machine has come to it. What it shows of the machine are replies
 // asked now; a row that a caption waits for is looked for on the paper. Nothing here knows of a page.
 import { WORD_TIME } from "./drive.mjs";
 import { FIRST, scriptOfProgram } from "./exhibits.mjs";
 import { signedOf } from "../libraries/javascript/replies.mjs";
 import { Pieces, rowsOf, typedAgain } from "./pieces.mjs";
 
-/** How long a caption stands at least before the next one; how long each stands of those that take turns; how long a scene rests before the next one; how often orders are asked for at a pace; and for how long a bit of a
- * sum is seen. All in milliseconds. */
+/**
+ * How long a caption stands at least before the next one; how long each stands of those that take turns; how long a scene rests before the
+ * next one; how often orders are asked for at a pace; and for how long a bit of a sum is seen. All in milliseconds.
+ */
 const [STANDS, TURNS, RESTS, PICTURE, BIT] = [5000, 9000, 3500, 100, 500];
-/** The orders of a portion where a row is waited for, and where nothing is; the word times that one is thought to take at first; the most orders of one run; and how many are done before the machine is seen again. */
+/**
+ * The orders of a portion where a row is waited for, and where nothing is; the word times that one is thought to take at first; the most
+ * orders of one run; and how many are done before the machine is seen again.
+ */
 const [PORTION, LARGE, AVERAGE, MOST_ORDERS, AT_ONCE] = [100, 20_000, 75, 5_000_000, 1500];
 /** How many orders may pass until a sum is in its place. */
 const TO_SUM = 40;
 
-/** The pictures of a sum that is made bit by bit, from the last place on: each has its places of the sum up to there, and of the word before it all others; `at` is the place, counted from the last one. */
+/**
+ * The pictures of a sum that is made bit by bit, from the last place on: each has its places of the sum up to there, and of the word before
+ * it all others; `at` is the place, counted from the last one.
+ */
 export function picturesOf(before, after) {
     const changed = ((signedOf(before) ^ signedOf(after)) >>> 0).toString(2);
     const [first, end] = [changed.length - 1 - changed.lastIndexOf("1"), changed.length];
     const ones = (places) => 2 ** places - 1;
     const mixed = (places) => ((signedOf(after) & ones(places)) | (signedOf(before) & ~ones(places))) >>> 0;
-    return before === after ? [] : Array.from({ length: end - first }, (unused, place) => ({ value: mixed(first + place + 1), at: first + place }));
+    return before === after
+        ? []
+        : Array.from({ length: end - first }, (unused, place) => ({ value: mixed(first + place + 1), at: first + place }));
 }
 
 /** The goal of a run: how many orders at most may pass before it is looked for, and what looks whether it is there. */
@@ -38,7 +49,9 @@ function goalOf(to, laboratory, isPrinted, addressOf) {
 
 /** An exhibit, its scene, and who is at it. Dispatches `change`. */
 export class Running extends EventTarget {
-    /** The file; the scene by its name; what is told now; the answer to a bet, as the number of its button; and whether something is done. */
+    /**
+     * The file; the scene by its name; what is told now; the answer to a bet, as the number of its button; and whether something is done.
+     */
     exhibit;
     scene = FIRST;
     told = null;
@@ -47,7 +60,10 @@ export class Running extends EventTarget {
     isHalted = false;
     /** Whether the paper was torn off in this scene: its rows are told after that alone. */
     isTorn = false;
-    /** The pace of the run under way, `fast`, `slow` or how many times faster than the machine, or null; and the word times that were passed over at once in this scene. */
+    /**
+     * The pace of the run under way, `fast`, `slow` or how many times faster than the machine, or null; and the word times that were passed
+     * over at once in this scene.
+     */
     pace = null;
     passedOver = 0;
     /** A sum that is made bit by bit, or null: its words before and after, its pictures, and how many of them are seen. */
@@ -74,8 +90,11 @@ export class Running extends EventTarget {
     #lastCounter = null;
     #hears = () => this.#look();
 
-    /** `settings` has `scriptOf`, which gives an example's text, `isStill`, `sleep` and `now`, `language`, which changes it, `chance`, a whole number below another one, and `home`, which is called in place of the first scene
-     * where the exhibit was chosen on a screen before it; or null. */
+    /**
+     * `settings` has `scriptOf`, which gives an example's text, `isStill`, `sleep` and `now`, `language`, which changes it, `chance`, a
+     * whole number below another one, and `home`, which is called in place of the first scene where the exhibit was chosen on a screen
+     * before it; or null.
+     */
     constructor(laboratory, drive, exhibit, settings) {
         super();
         [this.#laboratory, this.#drive, this.exhibit] = [laboratory, drive, exhibit];
@@ -116,7 +135,9 @@ export class Running extends EventTarget {
     /** What the four buttons say: a text in each language, the name of a text of the page, or null. */
     get labels() {
         const names = { start: "kioskToStart", language: "kioskLanguage", halt: this.isHalted ? "goOn" : "halt" };
-        return Array.from({ length: 4 }, (unused, place) => this.#scene.buttons[place] ?? null).map((it) => (typeof it === "string" ? names[it] : it?.text ?? null));
+        return Array.from({ length: 4 }, (unused, place) => this.#scene.buttons[place] ?? null).map(
+            (it) => (typeof it === "string" ? names[it] : it?.text ?? null)
+        );
     }
 
     /** The number of the button that stands out, or null. */
@@ -260,7 +281,10 @@ export class Running extends EventTarget {
             this.pieces.anew();
         }
         const { bits, words, count } = beside;
-        laboratory.questionsToo = [...(bits === undefined ? [] : [`words ${this.#addressOf(bits)} 1`]), ...(words === undefined ? [] : [`show ${this.#addressOf(words)} ${count}`])];
+        laboratory.questionsToo = [
+            ...(bits === undefined ? [] : [`words ${this.#addressOf(bits)} 1`]),
+            ...(words === undefined ? [] : [`show ${this.#addressOf(words)} ${count}`]),
+        ];
         await laboratory.settled();
     }
 
@@ -312,7 +336,9 @@ export class Running extends EventTarget {
         this.#change();
     }
 
-    /** Types the numbers of a printed row again, each with what comes after it; after each the machine runs until it waits for the next one. */
+    /**
+     * Types the numbers of a printed row again, each with what comes after it; after each the machine runs until it waits for the next one.
+     */
     async #again(row, after, isOn) {
         const laboratory = this.#laboratory;
         const all = rowsOf(laboratory.printed.text, []);
@@ -390,7 +416,9 @@ export class Running extends EventTarget {
         const laboratory = this.#laboratory;
         const read = () => laboratory.answers[0]?.trim().split(" ")[1] ?? "00000000";
         const before = read();
-        for (let left = TO_SUM; left > 0 && isOn() && read() === before && laboratory.way.kind === "go"; left -= 1) await laboratory.step(1, false);
+        for (let left = TO_SUM; left > 0 && isOn() && read() === before && laboratory.way.kind === "go"; left -= 1) {
+            await laboratory.step(1, false);
+        }
         if (!isOn()) return;
         this.bits = { before, after: read(), pictures: picturesOf(before, read()), seen: 0, isByHand: false };
         while (isOn() && this.bits.seen < this.bits.pictures.length) {
@@ -449,7 +477,9 @@ export class Running extends EventTarget {
         const isElsewhere = `${panel.counter} ${panel.clock}` !== this.#lastCounter;
         this.#lastCounter = `${panel.counter} ${panel.clock}`;
         for (const [at, caption] of this.#scene.captions.entries()) {
-            if (isElsewhere && caption.place !== undefined && this.#addressOf(caption.place) === panel.counter) this.#counts.set(at, (this.#counts.get(at) ?? 0) + 1);
+            if (isElsewhere && caption.place !== undefined && this.#addressOf(caption.place) === panel.counter) {
+                this.#counts.set(at, (this.#counts.get(at) ?? 0) + 1);
+            }
             if (this.#isPlain(caption) || this.#seen.has(at) || !this.#holds(caption, at)) continue;
             this.#seen.add(at);
             this.#waiting.push(caption);
@@ -470,7 +500,10 @@ export class Running extends EventTarget {
     }
 }
 
-/** The screen on which an exhibit is chosen: the first scenes of all play one after another, and buttons lead to them, a page of them after another. */
+/**
+ * The screen on which an exhibit is chosen: the first scenes of all play one after another, and buttons lead to them, a page of them after
+ * another.
+ */
 export class Choice extends Running {
     #files;
     hint = "kioskChoose";
@@ -478,7 +511,10 @@ export class Choice extends Running {
     #entries;
     #open;
 
-    /** `files` are the exhibits by their names; `others` are offered after them, each its name and what its button says; and `open` opens one by its name. */
+    /**
+     * `files` are the exhibits by their names; `others` are offered after them, each its name and what its button says; and `open` opens
+     * one by its name.
+     */
     constructor(laboratory, drive, { files, others, open }, settings) {
         super(laboratory, drive, [...files.values()][0], settings);
         [this.#files, this.#open] = [[...files.values()], open];

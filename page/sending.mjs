@@ -1,17 +1,27 @@
-// A work as it is sent to others: in a link, or in a file where that would be too long. What comes back is a text of somebody else's: it is looked at as a text, and only what has the form of a work is taken. Nothing here knows of a page.
+// A work as it is sent to others: in a link, or in a file where that would be too long. What comes back is a text of somebody else's: it is
+// looked at as a text, and only what has the form of a work is taken. Nothing here knows of a page.
 import { areInSource, isIdle, linesIn } from "./lines.mjs";
 import { LIMITS } from "./memory_budget.mjs";
 
 /** The letter of this form, before what is packed. A form that this page cannot read has a later one. */
 const VERSION = "a";
 
-/** The most characters of a link: everybody should take an address of that length (RFC 9110, 4.1). Browsers take more, but what links are sent through, and the servers of some pages, do not. */
+/**
+ * The most characters of a link: everybody should take an address of that length (RFC 9110, 4.1). Browsers take more, but what links are
+ * sent through, and the servers of some pages, do not.
+ */
 export const LONGEST_LINK = 8000;
 
-/** The most bytes that are unpacked, how many packed ones are unpacked at once, so that no more than these are unpacked beyond that, and the orders up to which portions are put together. */
+/**
+ * The most bytes that are unpacked, how many packed ones are unpacked at once, so that no more than these are unpacked beyond that, and the
+ * orders up to which portions are put together.
+ */
 const MOST = { bytes: LIMITS.lines, piece: 256, orders: 500_000 };
 
-/** What stands beside a work's machine and is not sent: torn pieces, since the paper in the machine is sent whole, and where words were moved for a try. */
+/**
+ * What stands beside a work's machine and is not sent: torn pieces, since the paper in the machine is sent whole, and where words were
+ * moved for a try.
+ */
 const NOT_SENT = ["pieces", "carried"];
 
 /** Why something was not opened: its name is that of a text of the page. */
@@ -20,10 +30,15 @@ class Wrong extends Error {}
 const PORTION = /^ *orders +(\d{1,6}) *$/;
 const [RULE, DROP] = [/^ *(?:break|watch)( |$)/, /^ *drop +(\d{1,4}) *$/];
 
-/** How many rules there may be after a line, by how many there were before it: never fewer than there are, also where the line was refused. */
+/**
+ * How many rules there may be after a line, by how many there were before it: never fewer than there are, also where the line was refused.
+ */
 const rulesAfter = (line, rules) => rules + (RULE.test(line) ? 1 : Number(DROP.exec(line)?.[1] ?? Infinity) < rules ? -1 : 0);
 
-/** The same lines with portions of orders that follow one another as one, where there is no rule, which may end a portion: they lead to the same machine. */
+/**
+ * The same lines with portions of orders that follow one another as one, where there is no rule, which may end a portion: they lead to the
+ * same machine.
+ */
 export function together(lines) {
     const inSource = areInSource(lines);
     const made = [];
@@ -58,7 +73,10 @@ function scriptOf(script, editions) {
     return code === undefined ? { name, lines, at } : { name, code, sum: sumOf(text), at };
 }
 
-/** What of a work is sent. `editions` gives the texts that an example has in the page's languages, by its name, each with its language. Of the lines that were done those at the beginning are not sent that are the example's. */
+/**
+ * What of a work is sent. `editions` gives the texts that an example has in the page's languages, by its name, each with its language. Of
+ * the lines that were done those at the beginning are not sent that are the example's.
+ */
 export function sentOf({ door, lines, script, drafts, task, source, pupil, isPaperUp }, editions) {
     const sent = script === null ? null : scriptOf(script, editions);
     const [done, own] = [together(lines === "" ? [] : lines.split("\n")), sent?.code === undefined ? [] : together(doneOf(script.lines))];
@@ -77,7 +95,10 @@ const isForm = (form) => (it) => isObject(it) && Object.entries(form).every(([na
 const orNone = (is) => (it) => it === null || is(it);
 const FORM = isForm({
     door: (it) => ["learn", "work"].includes(it), same: isCount, lines: isListOf(isLine),
-    script: orNone((it) => isForm({ name: isText, at: isCount })(it) && (it.code === undefined ? isListOf(isLine)(it.lines) : isForm({ code: isText, sum: isCount })(it))),
+    script: orNone((it) => (
+        isForm({ name: isText, at: isCount })(it)
+            && (it.code === undefined ? isListOf(isLine)(it.lines) : isForm({ code: isText, sum: isCount })(it))
+    )),
     drafts: (it) => isObject(it) && Object.values(it).every(isText), task: orNone(isText), source: orNone(isText),
     pupil: orNone(isForm({ lesson: isText, at: isCount, isDone: isListOf(isCount) })), isPaperUp: (it) => typeof it === "boolean",
 });
@@ -92,7 +113,16 @@ function workOfSent(sent, editions) {
     const own = text === undefined ? [] : together(doneOf(all));
     if (same > own.length || (script !== null && script.at > all.length)) throw new Wrong("broken");
     const fields = Object.fromEntries(Object.entries(drafts).filter(([name]) => !NOT_SENT.includes(name)));
-    return { door, lines: [...own.slice(0, same), ...lines].join("\n"), script: script === null ? null : { name: script.name, lines: all, at: script.at }, drafts: fields, task, source, pupil, isPaperUp };
+    return {
+        door,
+        lines: [...own.slice(0, same), ...lines].join("\n"),
+        script: script === null ? null : { name: script.name, lines: all, at: script.at },
+        drafts: fields,
+        task,
+        source,
+        pupil,
+        isPaperUp,
+    };
 }
 
 const pumped = (bytes, stream) => new Blob([bytes]).stream().pipeThrough(stream);
@@ -125,7 +155,10 @@ const inPieces = (bytes) => new ReadableStream({
 /** Whether a browser can make and read links: that of a few years ago cannot. */
 export const canPack = () => typeof DecompressionStream === "function";
 
-/** What is sent, packed for a link: compressed, in the format that has a sum of its bytes, and in the letters of base 64 that an address may have. */
+/**
+ * What is sent, packed for a link: compressed, in the format that has a sum of its bytes, and in the letters of base 64 that an address may
+ * have.
+ */
 export async function packedWork(sent) {
     const bytes = await bytesOf(pumped(new TextEncoder().encode(JSON.stringify(sent)), new CompressionStream("deflate")), Infinity);
     const letters = Array.from(bytes, (byte) => String.fromCharCode(byte)).join("");
@@ -140,7 +173,9 @@ async function unpackedText(text) {
     if (!canPack()) throw new Wrong("cannotUnpack");
     try {
         const bytes = Uint8Array.from(atob(text.slice(1).replaceAll("-", "+").replaceAll("_", "/")), (letter) => letter.charCodeAt(0));
-        return new TextDecoder("utf-8", { fatal: true }).decode(await bytesOf(inPieces(bytes).pipeThrough(new DecompressionStream("deflate")), MOST.bytes));
+        return new TextDecoder("utf-8", { fatal: true }).decode(
+            await bytesOf(inPieces(bytes).pipeThrough(new DecompressionStream("deflate")), MOST.bytes)
+        );
     } catch (failure) {
         throw failure instanceof Wrong ? failure : new Wrong("broken");
     }
@@ -182,7 +217,9 @@ export const workInFile = (text, editions) => tried(async () => {
 });
 
 /** The address of the page, without what it asks for; whether others can reach it is known of one that a server has given. */
-export const pageOf = ({ origin, protocol, pathname }) => ({ page: protocol === "file:" ? `file://${pathname}` : `${origin}${pathname}`, isServed: /^https?:$/.test(protocol) });
+export const pageOf = ({ origin, protocol, pathname }) => (
+    { page: protocol === "file:" ? `file://${pathname}` : `${origin}${pathname}`, isServed: /^https?:$/.test(protocol) }
+);
 
 /** The link that opens a work, whatever its length. */
 export const linkTo = async (sent, location) => `${pageOf(location).page}#work=${await packedWork(sent)}`;

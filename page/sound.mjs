@@ -1,8 +1,12 @@
-// The page's sound, made by the page itself: the strokes of the typewriter, and a hum that follows the drum's work. It is off until it is switched on, and while nobody sees the page.
+// The page's sound, made by the page itself: the strokes of the typewriter, and a hum that follows the drum's work. It is off until it is
+// switched on, and while nobody sees the page.
 import { SECTORS } from "./addresses.mjs";
 import { WORD_TIME } from "./drive.mjs";
 
-/** The hum in each phase, in hertz. At its own pace it is that of the drum: as many swings as turns; what goes faster still sounds an octave above that. */
+/**
+ * The hum in each phase, in hertz. At its own pace it is that of the drum: as many swings as turns; what goes faster still sounds an octave
+ * above that.
+ */
 const TURNS = 1000 / WORD_TIME / SECTORS;
 const HUM = { find: 82, take: 123, seek: 98, act: 110, own: TURNS, fast: 2 * TURNS };
 const LOUD = { hum: 0.05, stroke: 0.25 };

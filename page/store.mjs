@@ -1,8 +1,11 @@
-// Where the browser keeps what people have written: in its database, or, where it has none, in its storage, or nowhere. Values are kept by their names.
+// Where the browser keeps what people have written: in its database, or, where it has none, in its storage, or nowhere. Values are kept by
+// their names.
 
 const [DATABASE, SHELF, PREFIX] = ["condugwa", "kept", "condugwa/"];
 
-/** The changes of the last moment, which a database may have no time for any more: each tab has a record of its own, whose name begins so. */
+/**
+ * The changes of the last moment, which a database may have no time for any more: each tab has a record of its own, whose name begins so.
+ */
 const LAST_MOMENT = `${PREFIX}last-moment`;
 
 /** How long is waited for a database to open. */
@@ -94,7 +97,10 @@ async function firstOf(actions) {
     return null;
 }
 
-/** What is kept: its values by their names, those of them that were written in a last moment alone, what another tab wrote under the same names in its last moment, and what writes changes. `database` and `storage` give those of the browser; they may fail. */
+/**
+ * What is kept: its values by their names, those of them that were written in a last moment alone, what another tab wrote under the same
+ * names in its last moment, and what writes changes. `database` and `storage` give those of the browser; they may fail.
+ */
 export async function openStore({ database, storage }) {
     const shelf = had(storage);
     const found = await firstOf([() => Database.open(database()), () => new Shelf(shelf)]);
@@ -109,13 +115,23 @@ export async function openStore({ database, storage }) {
     }
     const own = `${LAST_MOMENT}/${Date.now().toString(36)}-${Math.random().toString(36).slice(2)}`;
     const read = left.map(({ name }) => name);
-    return { values, unwritten, replaced, isKept: found !== null, write: async (changes) => found?.store.write(changes), writeAtLast: (last) => writeAtLast(shelf, own, read, last) };
+    return {
+        values,
+        unwritten,
+        replaced,
+        isKept: found !== null,
+        write: async (changes) => found?.store.write(changes),
+        writeAtLast: (last) => writeAtLast(shelf, own, read, last),
+    };
 }
 
 /** The records of a last moment that tabs have left, the oldest tab's first, each with its name and its changes. */
 function recordsIn(shelf) {
     try {
-        return namesIn(shelf).filter((name) => name.startsWith(LAST_MOMENT)).sort().map((name) => ({ name, changes: changesIn(shelf, name) }));
+        return namesIn(shelf)
+            .filter((name) => name.startsWith(LAST_MOMENT))
+            .sort()
+            .map((name) => ({ name, changes: changesIn(shelf, name) }));
     } catch {
         return [];
     }
@@ -129,7 +145,10 @@ function changesIn(shelf, name) {
     }
 }
 
-/** Writes changes at once to a tab's own record, as far as the storage takes them; none takes away what was written so. The records that were read when the page was opened go with that: what they say is among the changes, or written. */
+/**
+ * Writes changes at once to a tab's own record, as far as the storage takes them; none takes away what was written so. The records that
+ * were read when the page was opened go with that: what they say is among the changes, or written.
+ */
 function writeAtLast(shelf, own, read, changes) {
     try {
         if (changes.size > 0) shelf.setItem(own, JSON.stringify([...changes]));

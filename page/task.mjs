@@ -1,4 +1,5 @@
-// A task of teaching/tasks and its check, for the page and for ./check_task: each try is a script of the laboratory, and what is missing is read from the
+// A task of teaching/tasks and its check, for the page and for ./check_task: each try is a script of the laboratory, and what is missing is
+// read from the
 // replies to its lines. teaching/tasks/README.md has the form of a task, and teaching/tasks/language the sentences.
 import { linesIn } from "./lines.mjs";
 import { heldOf, isRefusal, panelOf, printedOf, refusalOf, runOf, sourceOf, wholeOf } from "../libraries/javascript/replies.mjs";
@@ -10,13 +11,16 @@ const [SHOWN, FAULTS, LIMIT] = [100, 10, 10_000];
 const FIRST_ORDER = 32_768;
 
 /** The sentences of a file of teaching/tasks/language, by their names. */
-export const sentencesIn = (text) => Object.fromEntries(linesIn(text).filter((line) => !/^(#|$)/.test(line)).map((line) => [line.split(" ")[0], line.slice(line.indexOf(" ") + 1)]));
+export const sentencesIn = (text) => Object.fromEntries(
+    linesIn(text).filter((line) => !/^(#|$)/.test(line)).map((line) => [line.split(" ")[0], line.slice(line.indexOf(" ") + 1)])
+);
 
 /** What writes a sentence of a table by its name and the words that are put into it. */
 export const speaker = (sentences) => (name, ...words) => sentences[name].replace(/\{(\d)\}/g, (unused, place) => words[place - 1]);
 
 /** A line that begins a try, or wants something of it. */
-const LINE = /^(?:begin (?:put|mount|press) .+|want (?:printed(?: .*)?|like .+|word \d{4} [0-9fgjkqw]{8}(?: .+)?|shows \d{4} .+|counter \d{4}|status .+)|most (?:times|orders|words) \d+)$/;
+const LINE =
+    /^(?:begin (?:put|mount|press) .+|want (?:printed(?: .*)?|like .+|word \d{4} [0-9fgjkqw]{8}(?: .+)?|shows \d{4} .+|counter \d{4}|status .+)|most (?:times|orders|words) \d+)$/;
 
 /** A task with a mistake: the name of the sentence that says so, and the words after the task's own name. */
 export class TaskFault extends Error {
@@ -26,7 +30,10 @@ export class TaskFault extends Error {
     }
 }
 
-/** A task as its file has it: how many minutes it takes, the most orders of a run, what its pattern is called by languages, and its tries, each by its lines. */
+/**
+ * A task as its file has it: how many minutes it takes, the most orders of a run, what its pattern is called by languages, and its tries,
+ * each by its lines.
+ */
 export function taskIn(text) {
     const [task, shared] = [{ minutes: 0, limit: LIMIT, likes: {}, tries: [] }, []];
     for (const [place, line] of linesIn(text).entries()) {
@@ -50,14 +57,21 @@ const sourceLines = (source) => ["source", ...(source === "" ? [] : linesIn(sour
 const beginning = (lines) => ["press manual", ...restsOf(lines, "begin"), "press normal", "press start"];
 
 /** The script that sets a new machine up as the first try begins, with a source or, where that is null, without one. */
-export const setUpOf = ({ tries: [first] }, source) => [...(source === null ? [] : [...sourceLines(source), "load"]), ...beginning(first)].join("\n");
+export const setUpOf = ({ tries: [first] }, source) => (
+    [...(source === null ? [] : [...sourceLines(source), "load"]), ...beginning(first)].join("\n")
+);
 
 const COMMAND = /^ {4}(put|mount|press) /;
 
-/** A task's text as the page has it: where a paragraph asks for lines of the monitor to be typed, which the page does by itself, it has its first sentence alone, and then `done`, which says that. */
+/**
+ * A task's text as the page has it: where a paragraph asks for lines of the monitor to be typed, which the page does by itself, it has its
+ * first sentence alone, and then `done`, which says that.
+ */
 export function textAtPage(text, done) {
     const blocks = text.trim().split(/\n\n+/);
-    return blocks.map((block, place) => (COMMAND.test(blocks[place + 1] ?? "") ? `${/^[^]*?[.!?](?= |$)/.exec(block)?.[0] ?? block} ${done}` : block)).join("\n\n");
+    return blocks.map((block, place) => (
+        COMMAND.test(blocks[place + 1] ?? "") ? `${/^[^]*?[.!?](?= |$)/.exec(block)?.[0] ?? block} ${done}` : block
+    )).join("\n\n");
 }
 
 /** A text without what is no sign of ASCII: a question mark for each byte of that. */
@@ -84,7 +98,9 @@ const asTyped = (line) => line.replace(/^(put \d{4}) ([0-9fgjkqw]{8})$/, (whole,
 const LOOKS = {
     "want status": () => null,
     "want printed": ({ printed, say }, text) => (printed === text ? null : ["printed", shown(printed, say), shown(text, say)]),
-    "want like": ({ printed, say, like }, pattern) => (new RegExp(`^(${pattern})$`).test(printed) ? null : ["printed-like", shown(printed, say), like]),
+    "want like": ({ printed, say, like }, pattern) => (
+        new RegExp(`^(${pattern})$`).test(printed) ? null : ["printed-like", shown(printed, say), like]
+    ),
     "want word": ({ asked }, rest) => {
         const [address, digits, name] = /^(\S+) (\S+) ?(.*)$/.exec(rest).slice(1);
         const is = asked.get(address).digits;
@@ -143,11 +159,16 @@ async function tried(link, lines, about) {
     const printed = printedOf(await link.ask("printed")).text;
     const end = { ...about, ran, after, printed, times: after.clock - before.clock, asked: await asksOf(link, lines) };
     const atEnd = missingAtEnd(end, restsOf(lines, "want status")[0] ?? "halted stop");
-    const others = lines.filter(({ name }) => name in LOOKS).map(({ name, rest }) => LOOKS[name]({ ...end, isEnded: atEnd === null }, rest));
+    const others = lines.filter(({ name }) => name in LOOKS).map(({ name, rest }) => (
+        LOOKS[name]({ ...end, isEnded: atEnd === null }, rest)
+    ));
     return { missing: [atEnd, ...others].filter((it) => it !== null).map((it) => about.say(...it)), times: end.times };
 }
 
-/** The sentences of what is missing of a try, with its number where there are several, and how a later one than the first, which is that of the text, began. */
+/**
+ * The sentences of what is missing of a try, with its number where there are several, and how a later one than the first, which is that of
+ * the text, began.
+ */
 function ofTry(missing, place, { tries }, say) {
     if (missing.length === 0 || tries.length === 1) return missing;
     const begun = restsOf(tries[place], "begin");
@@ -182,7 +203,8 @@ export async function assembled(link, source, say) {
 }
 
 /**
- * Checks a source against a task in laboratories of a link, a new one for each try; throws a TaskFault. Gives whether it is right, the sentence that says so, with the
+ * Checks a source against a task in laboratories of a link, a new one for each try; throws a TaskFault. Gives whether it is right, the
+ * sentence that says so, with the
  * name of its file, and the sentences of what is missing. `sentences` are those of the language, which `code` names.
  */
 export async function checked(link, task, source, { file, sentences, code }) {

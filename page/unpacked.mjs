@@ -1,4 +1,5 @@
-// What packed.mjs has packed, as it was. No browser reads LZMA itself, so it is read here: bits of an arithmetic code say what comes next, a byte, or a
+// What packed.mjs has packed, as it was. No browser reads LZMA itself, so it is read here: bits of an arithmetic code say what comes next,
+// a byte, or a
 // copy of bytes that were there before, and each kind of bit has a chance that follows what it was before.
 
 /** Bits of the byte before that choose the code of a byte. */
@@ -124,7 +125,9 @@ function copyIn(coded, state, near) {
     let which = 0;
     if (coded.bit(IS_OTHER + state) === 1) which = coded.bit(IS_THIRD + state) === 0 ? 1 : 2 + coded.bit(IS_FOURTH + state);
     else if (coded.bit(IS_LONG + state) === 0) return { length: 1, near, after: state < 7 ? 9 : 11 };
-    return { length: coded.length(NEAR_LENGTH), near: [near[which], ...near.filter((unused, at) => at !== which)], after: state < 7 ? 8 : 11 };
+    return {
+        length: coded.length(NEAR_LENGTH), near: [near[which], ...near.filter((unused, at) => at !== which)], after: state < 7 ? 8 : 11,
+    };
 }
 
 /** Reads all bytes. A state says which kinds came before: below 7 the last one was a byte of its own. */

@@ -1,10 +1,13 @@
-// The words of the drum that the monitor told last. What has put a word there is asked once: as long as the monitor tells each order, an account says which word its order has stored.
+// The words of the drum that the monitor told last. What has put a word there is asked once: as long as the monitor tells each order, an
+// account says which word its order has stored.
 import { SECTORS, bareOrder } from "./addresses.mjs";
 import * as replies from "../libraries/javascript/replies.mjs";
 
 const nameOfTrack = (address) => address.slice(0, 2);
 
-const originBy = ({ order, at, clock, stored: { before } }) => ({ order: bareOrder(order), at, clock, lost: bareOrder(before.order) ?? `${before.digits} = ${before.number}` });
+const originBy = ({ order, at, clock, stored: { before } }) => (
+    { order: bareOrder(order), at, clock, lost: bareOrder(before.order) ?? `${before.digits} = ${before.number}` }
+);
 
 /** The words of a reply, by their addresses. */
 const wordsIn = (reply) => new Map(replies.heldOf(reply).map((word) => [word.address, word]));
@@ -67,7 +70,10 @@ export class WordCache {
         return new Map(addresses.map((address) => [address, this.#words.get(address)]));
     }
 
-    /** The words of addresses, each with the order that it is, or `word` and its digits, and with the order or the hand that is known to have put it there, or null. */
+    /**
+     * The words of addresses, each with the order that it is, or `word` and its digits, and with the order or the hand that is known to
+     * have put it there, or null.
+     */
     words(addresses) {
         return addresses.map((address) => {
             const { digits, order, isChanged } = this.#words.get(address);

@@ -1,5 +1,7 @@
-// The Worker that holds the session. The first message brings the module's bytes, packed as a text; each later one is some lines, and is answered by
-// their replies, one after the other, or by why there are none. A message `anew` ends the session and opens another one. Before this script stands
+// The Worker that holds the session. The first message brings the module's bytes, packed as a text; each later one is some lines, and is
+// answered by
+// their replies, one after the other, or by why there are none. A message `anew` ends the session and opens another one. Before this script
+// stands
 // shared.mjs, which unpacks.
 import { NoMemory, Session, compiled } from "../libraries/javascript/session.mjs";
 

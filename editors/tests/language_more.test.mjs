@@ -11,7 +11,8 @@ const VERSIONED = { capabilities: { workspace: { workspaceEdit: { documentChange
 test("word times are those of an order that a line declares, and not of a number that could be one", () => {
     const editor = new Editor(
         [
-            "first   b two", "        h two", "        z", "two     int 32768 30", "three   word 00010010", "four    frac .5", "five    p =a",
+            "first   b two", "        h two", "        z", "two     int 32768 30", "three   word 00010010", "four    frac .5",
+            "five    p =a",
             "        -t first", "        end first", "",
         ].join("\n")
     );

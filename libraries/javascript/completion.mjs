@@ -1,4 +1,5 @@
-// What the Tab key puts at the end of a line: commands, buttons and switches, labels, addresses at hand, names of files; in a source operations and labels.
+// What the Tab key puts at the end of a line: commands, buttons and switches, labels, addresses at hand, names of files; in a source
+// operations and labels.
 import { wordsOf } from "./lines.mjs";
 import { SWITCHES, commandsOf, liveOf, recordsOf } from "./replies.mjs";
 
@@ -16,7 +17,10 @@ export class Completion {
     /** What gives the user's short names. */
     shortNames = () => [];
 
-    /** With what answers a line that only asks, the commands of the terminal's own with what their operands are, and what gives the names of files that begin so. */
+    /**
+     * With what answers a line that only asks, the commands of the terminal's own with what their operands are, and what gives the names of
+     * files that begin so.
+     */
     constructor(ask, own, fileNames) {
         this.#ask = ask;
         this.#own = own;
@@ -28,7 +32,9 @@ export class Completion {
         const begun = /[^ ]*$/.exec(line)[0];
         const before = wordsOf(line.slice(0, line.length - begun.length));
         const source = this.openSource();
-        const words = source === null ? await this.#words(before, begun) : await this.#inSource(source, line.slice(0, line.length - begun.length));
+        const words = source === null
+            ? await this.#words(before, begun)
+            : await this.#inSource(source, line.slice(0, line.length - begun.length));
         return [[...new Set(words)].filter((word) => word.startsWith(begun)).sort(), begun];
     }
 
@@ -43,14 +49,18 @@ export class Completion {
     /** The commands that are for programs. */
     async #forPrograms() {
         const records = recordsOf(await this.#ask("json commands-data"));
-        return records.filter((record) => record.get("group") === "programs" && record.get("command") !== "json").map((record) => `${record.get("command")} `);
+        return records.filter((record) => record.get("group") === "programs" && record.get("command") !== "json").map(
+            (record) => `${record.get("command")} `
+        );
     }
 
     async #words(before, begun) {
         if (before[0] === "json") return before.length === 1 ? this.#forPrograms() : this.#words(before.slice(1), begun);
         if (before[0] === "at") return before.length === 1 ? [] : this.#words(before.slice(2), begun);
         const commands = new Map([...commandsOf(await this.#ask("commands")), ...this.#own]);
-        if (before.length === 0 || (before.length === 1 && before[0] === "help")) return [...commands.keys(), ...this.shortNames()].map((word) => `${word} `);
+        if (before.length === 0 || (before.length === 1 && before[0] === "help")) {
+            return [...commands.keys(), ...this.shortNames()].map((word) => `${word} `);
+        }
         if (before[0] === "run" && before.length === 2) return ["until "];
         if (before[0] === "until" || before[2] === "until") return [...COUNTED, ...(await this.#places())];
         switch (commands.get(before[0])?.takes) {
@@ -73,7 +83,9 @@ export class Completion {
     /** The labels of the last source with their addresses, the addresses of the rules, and the counter. */
     async #places() {
         const records = async (line) => recordsOf(await this.#ask(`json ${line}`));
-        const labels = (await records("labels-data")).flatMap((label) => [label.get("name"), ...(label.has("place") ? [label.get("place")] : [])]);
+        const labels = (await records("labels-data")).flatMap((label) => (
+            [label.get("name"), ...(label.has("place") ? [label.get("place")] : [])]
+        ));
         const rules = (await records("rules-data")).map((rule) => rule.get("label") ?? rule.get("address"));
         const [panel] = await records("panel-data");
         return [...labels, ...rules, panel.get("counter")];

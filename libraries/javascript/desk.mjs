@@ -17,7 +17,10 @@ export class Desk {
     #write;
     #isRefused = false;
 
-    /** The desk of a session; `manner` says how it writes replies: "bare", "prompting", "echo" or "json", and `write` takes the bytes that are to be written. */
+    /**
+     * The desk of a session; `manner` says how it writes replies: "bare", "prompting", "echo" or "json", and `write` takes the bytes that
+     * are to be written.
+     */
     constructor(session, write, manner = "bare") {
         this.#session = session;
         this.#write = write;

@@ -50,7 +50,9 @@ export class Editing {
     #note;
     #keep;
 
-    /** The keyboard that is lent, what tells a sentence, and what keeps lines that were given up and gives the name of their file, or null. */
+    /**
+     * The keyboard that is lent, what tells a sentence, and what keeps lines that were given up and gives the name of their file, or null.
+     */
     constructor({ keyboard, note, keep }) {
         this.#keyboard = keyboard;
         this.#note = note;
@@ -121,7 +123,9 @@ export class Editing {
 
     /** Each line in its turn; after the last one more may be typed, up to one with only a point. A line that is emptied goes. */
     async #byLines(before) {
-        this.#note("each line can be changed; an emptied one goes, a line with only a point ends the editing, and VISUAL or EDITOR names an editor");
+        this.#note(
+            "each line can be changed; an emptied one goes, a line with only a point ends the editing, and VISUAL or EDITOR names an editor"
+        );
         const after = [];
         for (let number = 1; ; number++) {
             const begun = before[number - 1];

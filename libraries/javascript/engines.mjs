@@ -74,14 +74,21 @@ function valueText(value) {
 
 /** The lines of a record: as one object where objects are asked for, or of each key that has a value with it. */
 const recordLines = (record, isObject) => (
-    isObject ? [JSON.stringify(record)] : Object.entries(record).filter(([, value]) => value !== null).map(([key, value]) => `${key} ${valueText(value)}`));
+    isObject
+        ? [JSON.stringify(record)]
+        : Object.entries(record).filter(([, value]) => value !== null).map(([key, value]) => `${key} ${valueText(value)}`));
 
 /** The lines of a reply of the native program to a line. */
 const replyLines = (reply, line) => reply.flatMap((it) => (typeof it === "string" ? [it] : recordLines(it, wordsOf(line)[0] === "json")));
 
-/** Starts a process beside a program that kills it when this one has gone without ending it: a program within a long line does not notice that its input has closed. */
+/**
+ * Starts a process beside a program that kills it when this one has gone without ending it: a program within a long line does not notice
+ * that its input has closed.
+ */
 function guard(program) {
-    const beside = spawn("sh", ["-c", 'read -r _; kill -KILL "$1"', "guard", String(program.pid)], { stdio: ["pipe", "ignore", "ignore"], detached: true });
+    const beside = spawn(
+        "sh", ["-c", 'read -r _; kill -KILL "$1"', "guard", String(program.pid)], { stdio: ["pipe", "ignore", "ignore"], detached: true }
+    );
     for (const it of [beside, beside.stdin]) it.on("error", () => {}).unref();
     program.once("exit", () => beside.kill("SIGKILL"));
 }
@@ -141,11 +148,16 @@ export class ProgramEngine {
     }
 
     #written(objects) {
-        const linesOf = ({ line = "", reply, refused, from = "" }) => [...replyLines(reply, line), ...(refused && from !== "" ? [`${INDENT}${from}`] : [])];
+        const linesOf = ({ line = "", reply, refused, from = "" }) => (
+            [...replyLines(reply, line), ...(refused && from !== "" ? [`${INDENT}${from}`] : [])]
+        );
         return objects.flatMap(linesOf).map((line) => `${line}\n`).join("");
     }
 
-    /** Ends the program within a line, which throws Stopped. Another one is brought to where it was before the line, by the lines that lead there. */
+    /**
+     * Ends the program within a line, which throws Stopped. Another one is brought to where it was before the line, by the lines that lead
+     * there.
+     */
     async takeBack(lines) {
         const before = this.#program;
         this.#isBroken = true;

@@ -17,8 +17,14 @@ export class FileTrouble extends Error {
 
 /** What the system says where something cannot be read or kept, in words. */
 const REASONS = {
-    ENOSPC: "the disk is full", EDQUOT: "no more may be kept on this disk", EFBIG: "a file may not be longer", EACCES: "this user may not do that there",
-    EPERM: "this user may not do that there", EROFS: "this disk cannot be written", ENOTDIR: "a file is in the place of a folder", ENOENT: "the folder cannot be made",
+    ENOSPC: "the disk is full",
+    EDQUOT: "no more may be kept on this disk",
+    EFBIG: "a file may not be longer",
+    EACCES: "this user may not do that there",
+    EPERM: "this user may not do that there",
+    EROFS: "this disk cannot be written",
+    ENOTDIR: "a file is in the place of a folder",
+    ENOENT: "the folder cannot be made",
     EISDIR: "a folder is in the place of a file", EIO: "the disk does not answer",
 };
 

@@ -327,7 +327,9 @@ export class Front {
     async #putListing(line) {
         const [, before, address, between, digits] = /^( *\S+ *)(\S*)( *)(\S*)/.exec(line);
         const refuse = (columns, why) => this.#say(`? 1 Form: column ${columns.join("").length + 1}: ${why}\n`);
-        if (!/^\d{4}$/.test(address)) return refuse([before], "a line of a listing begins with an address, two digits for the track and two for the sector");
+        if (!/^\d{4}$/.test(address)) {
+            return refuse([before], "a line of a listing begins with an address, two digits for the track and two for the sector");
+        }
         if (digits.length !== 8) return refuse([before, address, between], "the eight digits of a word come after the address");
         await this.#answer(`put ${address} ${digits}`);
     }
@@ -469,7 +471,9 @@ export class Front {
 
     /** Goes to the beginning of an order, in a session of its own that does the lines which lead there. */
     async #goTo(number) {
-        if (!isNumber(number)) return this.#refuse("to", number === undefined ? "the number of an order is missing" : `${number} is not a number`);
+        if (!isNumber(number)) {
+            return this.#refuse("to", number === undefined ? "the number of an order is missing" : `${number} is not a number`);
+        }
         const there = await this.#engine.ask(`at ${number} panel`);
         if (isRefusal(there)) return this.#say(there);
         const lines = linesOf(await this.#engine.ask(`at ${number} transcript`));

@@ -1,4 +1,5 @@
-// What a terminal says where somebody asks for help: the groups of commands, a command with an example and what is replied to it, the sixteen orders, and the
+// What a terminal says where somebody asks for help: the groups of commands, a command with an example and what is replied to it, the
+// sixteen orders, and the
 // source language. All of it is made of what the laboratory tells about its commands and operations.
 import { wordsOf } from "./lines.mjs";
 import { formsIn } from "./own.mjs";
@@ -10,8 +11,14 @@ const WIDTH = 80;
 const INDENT = "    ";
 /** Of a longer reply to an example only the first lines are shown. */
 const MOST_SHOWN = 8;
-/** What is done before an example, so that there is something to see: a small program is loaded, and has performed orders up to one that changes a word. */
-const PREPARED = ["source", "start p =a", " b value", " a value", " h value", " p =b", " z", "value int 5 30", " end start", ".", "load", "watch value", "run 4"];
+/**
+ * What is done before an example, so that there is something to see: a small program is loaded, and has performed orders up to one that
+ * changes a word.
+ */
+const PREPARED = [
+    "source", "start p =a", " b value", " a value", " h value", " p =b", " z", "value int 5 30", " end start", ".", "load", "watch value",
+    "run 4",
+];
 /** The machine rests, or is going, when an example is typed; what says so to the reader. */
 const STATES = [
     { lines: [...PREPARED, "press manual"], says: "after the lines that help example shows, and press manual:" },
@@ -41,7 +48,8 @@ const NOTES = new Map([
         + "once, with its point after place 30."],
     ["int", "The second number is the place after which the point is: int 5 30 is the whole number 5, which numbers shows."],
 ]);
-const LINE_OF_A_SOURCE = "A line of a source has a label, which starts in the first column, an operation, its operands, and a comment after a semicolon; any of them may be missing.";
+const LINE_OF_A_SOURCE =
+    "A line of a source has a label, which starts in the first column, an operation, its operands, and a comment after a semicolon; any of them may be missing.";
 
 /** Words in lines of at most 80 columns; all but the first line begin so far in. */
 function wrapped(front, words, indent) {
@@ -73,7 +81,8 @@ export class Help {
     #isNarrow;
 
     /**
-     * What answers a line that only asks, the commands of the terminal's own, what opens a laboratory in which an example is tried, and what
+     * What answers a line that only asks, the commands of the terminal's own, what opens a laboratory in which an example is tried, and
+     * what
      * tells whether the terminal is narrow.
      */
     constructor(ask, own, openScratch, isNarrow = () => false) {
@@ -134,7 +143,9 @@ export class Help {
     /** All commands, with those of the terminal in the place of the monitor's where both have one. */
     async #commands() {
         const told = await this.#records("commands-data");
-        const own = [...this.#own].map(([command, { operands, does, example }]) => ({ command, group: "terminal", operands, does, example }));
+        const own = [...this.#own].map(([command, { operands, does, example }]) => (
+            { command, group: "terminal", operands, does, example }
+        ));
         return [...told.filter(({ command }) => !this.#own.has(command)), ...own];
     }
 
@@ -145,7 +156,11 @@ export class Help {
 
     async #command({ command, operands, does, refused, example }) {
         const refusal = refused === undefined ? [] : [refusedWhen(refused)];
-        return [...formsIn(command, operands), ...indented([does, ...refusal]), ...(example === undefined ? [] : await this.#example(command, example))];
+        return [
+            ...formsIn(command, operands),
+            ...indented([does, ...refusal]),
+            ...(example === undefined ? [] : await this.#example(command, example)),
+        ];
     }
 
     /** An example and what is replied to it, with what comes before it where that matters. One that names a file is not tried. */
@@ -157,7 +172,9 @@ export class Help {
         return [...(says === null ? [] : [INDENT + says]), `${INDENT}> ${example}`, ...shown.map((line) => `${INDENT}${line}`)];
     }
 
-    /** The reply to an example, in the first state in which it does something, and what says which state that is; a new machine needs none. */
+    /**
+     * The reply to an example, in the first state in which it does something, and what says which state that is; a new machine needs none.
+     */
     async #tried(example) {
         let found = { reply: "", says: null };
         for (const { lines, says } of STATES) {
@@ -212,12 +229,19 @@ export class Help {
     /** The sixteen orders: what each does, and which wait for the word at their address. */
     async #orders() {
         const orders = (await this.#records("operations-data")).filter(({ operation }) => operation.length === 1);
-        return ["the sixteen orders; those with a + wait for the word at their address:", ...table(orders.map(({ operation, waits, does }) => [`${operation} ${waits === "yes" ? "+" : " "}`, does]))];
+        return [
+            "the sixteen orders; those with a + wait for the word at their address:",
+            ...table(orders.map(({ operation, waits, does }) => [`${operation} ${waits === "yes" ? "+" : " "}`, does])),
+        ];
     }
 
     /** A line of a source, and the operations that are no orders. */
     async #language() {
         const others = (await this.#records("operations-data")).filter(({ operation }) => operation.length > 1);
-        return [...sentences([LINE_OF_A_SOURCE, OPERANDS]), "Its operations are the sixteen orders, and these:", ...table(others.map(({ operation, does, example }) => [operation, `${does}: ${example}`]))];
+        return [
+            ...sentences([LINE_OF_A_SOURCE, OPERANDS]),
+            "Its operations are the sixteen orders, and these:",
+            ...table(others.map(({ operation, does, example }) => [operation, `${does}: ${example}`])),
+        ];
     }
 }

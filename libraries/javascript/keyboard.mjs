@@ -126,14 +126,20 @@ export class Keyboard {
     /** Whether Ctrl-C was pressed since a line was given out. */
     isInterrupted = false;
 
-    /** A keyboard at a terminal, with what completes a line (later) and the lines typed before, the last one first; a plain one is asked nothing. */
+    /**
+     * A keyboard at a terminal, with what completes a line (later) and the lines typed before, the last one first; a plain one is asked
+     * nothing.
+     */
     constructor({ input = process.stdin, output = process.stdout, completer, history, isPlain = false }) {
         this.#input = input;
         this.#output = output;
         this.#isPlain = isPlain;
         this.#keys = new PassThrough();
         const completed = (line, done) => this.#complete(completer(line), done);
-        this.#reader = createInterface({ input: this.#keys, output, terminal: true, completer: completed, history: [...history], historySize: 1000, removeHistoryDuplicates: true });
+        this.#reader = createInterface({
+            input: this.#keys, output, terminal: true, completer: completed, history: [...history], historySize: 1000,
+            removeHistoryDuplicates: true,
+        });
         this.#reader.on("line", (line) => this.#give(line));
         this.#takeTerminal();
         input.on("data", (bytes) => this.#hear(bytes));

@@ -242,7 +242,9 @@ export class Laboratory {
     /** The run that a reply tells, with what the machine's state says of its end. */
     #ran(reply) {
         const run = replies.runOf(reply);
-        this.#lastRun = { ...run, isMet: replies.metIn(reply), state: run.end === "limit" ? null : replies.stateOf(this.#asked("json state-data")) };
+        this.#lastRun = {
+            ...run, isMet: replies.metIn(reply), state: run.end === "limit" ? null : replies.stateOf(this.#asked("json state-data")),
+        };
         return this.#lastRun;
     }
 

@@ -34,9 +34,13 @@ export const linesIn = (text) => (text === "" ? [] : text.replace(/\n$/, "").spl
 export const hasLine = (text, wanted) => text.split("\n").some((line) => withoutReturn(line) === wanted);
 
 /** A text with each byte but the printed characters of ASCII by its number, as the proved program writes strings of JSON. */
-export const escapedOf = (text) => text.replace(/["\\]|[^ -~]/g, (sign) => (/["\\]/.test(sign) ? `\\${sign}` : `\\u00${sign.charCodeAt(0).toString(16).padStart(2, "0")}`));
+export const escapedOf = (text) => (
+    text.replace(/["\\]|[^ -~]/g, (sign) => (/["\\]/.test(sign) ? `\\${sign}` : `\\u00${sign.charCodeAt(0).toString(16).padStart(2, "0")}`))
+);
 
-/** Parts lines from a text that comes in pieces. Of a line that is longer than what is kept only its stand-in is held, however long it is. */
+/**
+ * Parts lines from a text that comes in pieces. Of a line that is longer than what is kept only its stand-in is held, however long it is.
+ */
 export class LineParts {
     #front = "";
     #isLong = false;

@@ -127,7 +127,9 @@ export class LongLines {
         return this.wasStopped;
     }
 
-    /** `run` or `orders`; the reply is that of one line. What comes after the number is `more`; what shows how far it is may be another's. */
+    /**
+     * `run` or `orders`; the reply is that of one line. What comes after the number is `more`; what shows how far it is may be another's.
+     */
     async run(command, limit, more = "", show = null) {
         const progress = new Progress(this.#draw);
         this.wasStopped = false;

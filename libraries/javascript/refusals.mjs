@@ -18,7 +18,9 @@ function faultsIn(reply, opened, lines) {
     for (const line of reply.slice(1)) {
         const [, number, kind] = wordsOf(line);
         if (!isFault(line)) faults.at(-1).reason.push(line);
-        else faults.push({ number: opened + Number(number), line: lines[opened + Number(number) - 1] ?? "", reason: [`${reply[0]}: ${kind}`] });
+        else faults.push({
+            number: opened + Number(number), line: lines[opened + Number(number) - 1] ?? "", reason: [`${reply[0]}: ${kind}`],
+        });
     }
     return faults;
 }
@@ -86,7 +88,10 @@ class Passage {
         if (this.#opened === null) this.#accepted.push(line);
     }
 
-    /** The reply to a line is a refusal, or it is not; where the monitor takes a line that a script may not have, what it has done is undone. */
+    /**
+     * The reply to a line is a refusal, or it is not; where the monitor takes a line that a script may not have, what it has done is
+     * undone.
+     */
     #judge(number, line, reply) {
         if (!isRefusal(this.#replies.first)) return this.#replies.pass(linesIn(reply));
         const refusal = this.#replies.first;
@@ -114,7 +119,10 @@ export function refusalsOf(module, script) {
 }
 
 /** Each refusal with the file's name, its number and its line, and below them the reason. */
-export const toldRefusals = (name, refusals) => refusals.map(({ number, line, reason }) => [`${name}:${number}: ${line}`, ...reason.map((text) => `${INDENT}${text}`)].join("\n").concat("\n")).join("");
+export const toldRefusals =
+    (name, refusals) => refusals.map(({ number, line, reason }) => (
+        [`${name}:${number}: ${line}`, ...reason.map((text) => `${INDENT}${text}`)].join("\n").concat("\n")
+    )).join("");
 
 if (process.argv[1] === fileURLToPath(import.meta.url)) {
     const [file, name = file] = process.argv.slice(2);

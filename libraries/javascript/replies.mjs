@@ -39,7 +39,12 @@ export function refusalOf(reply) {
     const [said, ...reasons] = (linesOf(reply)[0] ?? "").split(": ");
     const [code, kind = "", number] = wordsAfter("?", said);
     if (kind === "") throw misread("refusal", reply);
-    return { code: numberIn(code), kind, number: number === undefined ? null : numberIn(number), reason: reasons.length === 0 ? null : reasons.join(": ") };
+    return {
+        code: numberIn(code),
+        kind,
+        number: number === undefined ? null : numberIn(number),
+        reason: reasons.length === 0 ? null : reasons.join(": "),
+    };
 }
 
 const DIGITS = "0123456789fgjkqw";
@@ -81,7 +86,9 @@ export function reportOf(reply) {
     const lines = linesOf(reply);
     const last = lines.pop() ?? "";
     const [end] = isRefusal(last) ? [] : recordsOf(last);
-    return { told: recordsOf(lines.join("\n")), end: end === undefined ? last : `ran ${valueOf(end, "ran")}`, state: end?.get("state") ?? null };
+    return {
+        told: recordsOf(lines.join("\n")), end: end === undefined ? last : `ran ${valueOf(end, "ran")}`, state: end?.get("state") ?? null,
+    };
 }
 
 /** The value of a key. */
@@ -117,8 +124,10 @@ export function panelOf(reply) {
 
 const LIVE = "live-";
 
-/** The names of what is live, and what lets the machine go on, of a reply of `state-data`: its kind is `go` where orders are performed, `keys`, `start`, or
- * `mode` where the button of a mode comes first. */
+/**
+ * The names of what is live, and what lets the machine go on, of a reply of `state-data`: its kind is `go` where orders are performed,
+ * `keys`, `start`, or `mode` where the button of a mode comes first.
+ */
 export function liveOf(reply) {
     const [record] = recordsOf(reply);
     if (record === undefined) throw misread("state", reply);
@@ -196,9 +205,17 @@ function originOf({ order, at, clock, lost }) {
     return { order: order ?? null, at: at ?? null, clock: BigInt(clock), lost };
 }
 
-/** Words, of replies of `show-data`, `look` or `why-data`: the address, the digits, the order, which is null where the word is none, and, of the first, whether a step that is kept has changed it. */
+/**
+ * Words, of replies of `show-data`, `look` or `why-data`: the address, the digits, the order, which is null where the word is none, and, of
+ * the first, whether a step that is kept has changed it.
+ */
 export const heldOf = (reply) => recordsOf(reply).filter((record) => record.has("address")).map((record) => (
-    { address: valueOf(record, "address"), digits: valueOf(record, "digits"), order: record.get("order") ?? null, isChanged: record.get("changed") === true }));
+    {
+        address: valueOf(record, "address"),
+        digits: valueOf(record, "digits"),
+        order: record.get("order") ?? null,
+        isChanged: record.get("changed") === true,
+    }));
 
 /** What a word was, as the record of another one that took its place says it: the order, or the digits and the number. */
 const lostIn = (record) => record.get("before-order") ?? `${valueOf(record, "before")} = ${valueOf(record, "before-number")}`;
@@ -206,14 +223,20 @@ const lostIn = (record) => record.get("before-order") ?? `${valueOf(record, "bef
 /** What replies of `why-data` say of the origins of their words, by the addresses; a word that no kept step has changed has none. */
 export function originsOf(reply) {
     const changed = recordsOf(reply).filter((record) => valueOf(record, "changed-by") !== "none");
-    return new Map(changed.map((record) => [valueOf(record, "address"), originOf({ order: record.get("by-order"), at: record.get("by-at"), clock: valueOf(record, "by-clock"), lost: lostIn(record) })]));
+    return new Map(
+        changed.map((record) => [
+            valueOf(record, "address"),
+            originOf({ order: record.get("by-order"), at: record.get("by-at"), clock: valueOf(record, "by-clock"), lost: lostIn(record) }),
+        ])
+    );
 }
 
 const IN_REGISTER = "register";
 
 /** The keys of an account that are read; what other ones say is kept as it is: later monitors may say more. */
 const ACCOUNT_KEYS = new Set([
-    "clock", "at", "order", "status", "find", "take", "seek", "act", "before", "after", "put-by", "put-at", "put-clock", "put-ago", "put-over",
+    "clock", "at", "order", "status", "find", "take", "seek", "act", "before", "after", "put-by", "put-at", "put-clock", "put-ago",
+    "put-over",
     "stored", "found", "found-order", "found-number", "left", "left-order", "left-number", "printed", "sign", "passed",
 ]);
 
@@ -262,7 +285,10 @@ export const drumRowsOf = (lines) => lines.map((line) => {
 
 const PARTS = ["find", "take", "seek", "act", "elsewhere"];
 
-/** The records of `profile-data`: the totals, the parts of an order by their keys, and the places with most word times. Per cents are rounded down. */
+/**
+ * The records of `profile-data`: the totals, the parts of an order by their keys, and the places with most word times. Per cents are
+ * rounded down.
+ */
 export function profileOf([whole, ...places]) {
     if (whole === undefined) throw misread("profile", "");
     const times = numberOf(whole, "times");
@@ -274,20 +300,28 @@ export function profileOf([whole, ...places]) {
     };
 }
 
-/** What orders would have taken with one word at each sector, of the records of `optimum-data NUMBER ttss`: `numbers` by sector. `kind` is `free` where the word may be moved, and `none` where
- * no order was performed; where it may not, `reason` says why, and nothing is saved. */
+/**
+ * What orders would have taken with one word at each sector, of the records of `optimum-data NUMBER ttss`: `numbers` by sector. `kind` is
+ * `free` where the word may be moved, and `none` where no order was performed; where it may not, `reason` says why, and nothing is saved.
+ */
 export function costsOf([record]) {
     if (record === undefined) throw misread("optimum of a word", "");
     const orders = numberOf(record, "orders");
     const kind = orders === 0 ? "none" : valueOf(record, "freedom");
     return {
-        orders, times: numberOf(record, "times"), address: kind === "none" ? null : valueOf(record, "word"), label: record.get("label") ?? null,
+        orders,
+        times: numberOf(record, "times"),
+        address: kind === "none" ? null : valueOf(record, "word"),
+        label: record.get("label") ?? null,
         own: numberOf(record, "sector"), best: numberOf(record, "best"), saved: kind === "free" ? numberOf(record, "saved") : 0,
         kind, reason: kind === "free" ? null : valueOf(record, "freedom-sentence"), numbers: valueOf(record, "numbers").map(Number),
     };
 }
 
-/** What a run tells of its orders, and the line that ends it. What the monitor says after that line begins with a blank, or with the key `state`. */
+/**
+ * What a run tells of its orders, and the line that ends it. What the monitor says after that line begins with a blank, or with the key
+ * `state`.
+ */
 export function toldOf(reply) {
     const lines = linesOf(reply);
     const last = lines.findLastIndex((line) => !line.startsWith(" ") && !line.startsWith("state "));
@@ -307,7 +341,10 @@ export function sourceOf(reply) {
     return { cells: 0, start: null, faults: faults.map(([number, kind]) => ({ line: numberIn(number), kind })) };
 }
 
-/** The labels of the last source, by their addresses, of a reply of `labels-data`; a place may have several. A label whose value is past the drum is left out. */
+/**
+ * The labels of the last source, by their addresses, of a reply of `labels-data`; a place may have several. A label whose value is past the
+ * drum is left out.
+ */
 export function labelsOf(reply) {
     const labels = new Map();
     for (const record of recordsOf(reply).filter((it) => it.has("place"))) {
@@ -339,7 +376,8 @@ export function optimumOf([whole, ...words]) {
     const gains = { free: [], performed: [], namedByChanged: [] };
     for (const word of words) {
         gains[FREEDOMS[valueOf(word, "freedom")]].push({
-            address: valueOf(word, "word"), label: word.get("label") ?? null, sector: numberOf(word, "sector"), best: numberOf(word, "best"), saved: numberOf(word, "saved"),
+            address: valueOf(word, "word"), label: word.get("label") ?? null, sector: numberOf(word, "sector"),
+            best: numberOf(word, "best"), saved: numberOf(word, "saved"),
         });
     }
     return { orders: numberOf(whole, "orders"), times: numberOf(whole, "times"), together: numberOf(whole, "together"), ...gains };
@@ -353,7 +391,9 @@ export const commandsOf = (reply) => new Map(linesOf(reply).map((line) => {
 }));
 
 /** The operations that wait for the word at their address, of a reply of `operations-data`. */
-export const waitingOf = (reply) => new Set(recordsOf(reply).filter((record) => valueOf(record, "waits") === "yes").map((record) => valueOf(record, "operation")));
+export const waitingOf = (reply) => (
+    new Set(recordsOf(reply).filter((record) => valueOf(record, "waits") === "yes").map((record) => valueOf(record, "operation")))
+);
 
 // The signs of codes, as docs/FORMATS.md lists them. A group such as [16] is the code with that number, even one that has a sign.
 const SIGNS = new Map([

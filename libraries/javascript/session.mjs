@@ -13,7 +13,10 @@ const LAST_ROOM = 2 ** 25;
 const WELL = 0;
 const QUESTIONS = 1;
 const MEMORY = "there is not enough memory";
-const FUNCTIONS = ["lgp_open_in", "lgp_answer_in", "lgp_reply_in", "lgp_close_in", "lgp_run_script_in", "lgp_source_in", "lgp_tell_in", "lgp_show_in", "lgp_wish_in", "lgp_manner_in", "lgp_leave_in"];
+const FUNCTIONS = [
+    "lgp_open_in", "lgp_answer_in", "lgp_reply_in", "lgp_close_in", "lgp_run_script_in", "lgp_source_in", "lgp_tell_in", "lgp_show_in",
+    "lgp_wish_in", "lgp_manner_in", "lgp_leave_in",
+];
 // by their places: the numbers of libraries/c/lgp30.h
 const TOLD = ["typed", "first", "onward", "found", "notOpened", "notRead", "tooLong", "notNamed", "kept", "notKept"];
 const SHOWN = ["prompt", "name", "made"];
@@ -95,7 +98,10 @@ class Instance {
         return this.call(name, ...numbers, this.room, this.#room, this.outcome);
     }
 
-    /** Writes a text where the module reads it, and gives its place and length. A text for which that place is too small stands after the room for replies. */
+    /**
+     * Writes a text where the module reads it, and gives its place and length. A text for which that place is too small stands after the
+     * room for replies.
+     */
     write(text) {
         const place = text.length <= this.#textLength ? this.text : this.room + this.#room;
         this.#reach(place + text.length);
@@ -141,7 +147,9 @@ class Instance {
 
     /** What its memory holds below the room for replies: the pages that are not all zeros, each with its place. */
     get image() {
-        return this.#pages().filter((page) => !page.equals(EMPTY.subarray(0, page.length))).map((page) => ({ at: page.byteOffset, bytes: Uint8Array.from(page) }));
+        return this.#pages()
+            .filter((page) => !page.equals(EMPTY.subarray(0, page.length)))
+            .map((page) => ({ at: page.byteOffset, bytes: Uint8Array.from(page) }));
     }
 
     /** Makes its memory what an image holds, of an instance laid out alike. */
@@ -155,7 +163,9 @@ class Instance {
 
     #pages() {
         const { buffer } = this.#exports.memory;
-        return Array.from({ length: Math.ceil(this.room / PAGE) }, (unused, at) => Buffer.from(buffer, at * PAGE, Math.min(PAGE, this.room - at * PAGE)));
+        return Array.from(
+            { length: Math.ceil(this.room / PAGE) }, (unused, at) => Buffer.from(buffer, at * PAGE, Math.min(PAGE, this.room - at * PAGE))
+        );
     }
 
     /** Makes room for the longest reply to an end. */
@@ -171,7 +181,9 @@ export class Session {
     /** Opens a session in a new instance of a module. */
     constructor(module, region = REGION) {
         this.#instance = new Instance(module, LINE, region);
-        if (this.#instance.call("lgp_open_in", this.#instance.handed, this.#instance.session) !== WELL) throw new NoMemory(`${MEMORY} to open a laboratory`);
+        if (this.#instance.call("lgp_open_in", this.#instance.handed, this.#instance.session) !== WELL) {
+            throw new NoMemory(`${MEMORY} to open a laboratory`);
+        }
     }
 
     /** Answers a line, in bytes without a line feed: the bytes of its reply, and whether it is refused. Throws NoMemory. */
@@ -187,7 +199,10 @@ export class Session {
         return { reply: this.#instance.reply, isRefused: status === QUESTIONS };
     }
 
-    /** Tells its desk something, with the bytes that belong to it: the bytes that are to be written, and whether they are a refusal. Throws NoMemory. */
+    /**
+     * Tells its desk something, with the bytes that belong to it: the bytes that are to be written, and whether they are a refusal. Throws
+     * NoMemory.
+     */
     tell(what, bytes = NO_BYTES) {
         return this.#given("lgp_tell_in", [TOLD.indexOf(what)], ...this.#instance.write(bytes));
     }
@@ -252,12 +267,19 @@ function answerText(module, text, region, call) {
     return { replies: (length > FIRST_ROOM ? run(length) : first).reply, questions };
 }
 
-/** Answers a whole script, in bytes, from a machine in its opening state: the bytes of the replies, and how many begin with a question mark. */
+/**
+ * Answers a whole script, in bytes, from a machine in its opening state: the bytes of the replies, and how many begin with a question mark.
+ */
 export function answerScript(module, script, region = REGION) {
     return answerText(module, script, region, (instance, ...text) => instance.asks("lgp_run_script_in", instance.handed, ...text));
 }
 
-/** What is wanted of a source, in bytes: with "asm" its listing, with "tape" its tape, with "run" what a run of at most `limit` orders prints, and the panel; or its faults, and then `questions` is 1. */
+/**
+ * What is wanted of a source, in bytes: with "asm" its listing, with "tape" its tape, with "run" what a run of at most `limit` orders
+ * prints, and the panel; or its faults, and then `questions` is 1.
+ */
 export function answerSource(module, wanted, source, limit = 0, region = REGION) {
-    return answerText(module, source, region, (instance, ...text) => instance.asks("lgp_source_in", instance.handed, [WANTED.indexOf(wanted)], limit, ...text));
+    return answerText(module, source, region, (instance, ...text) => (
+        instance.asks("lgp_source_in", instance.handed, [WANTED.indexOf(wanted)], limit, ...text)
+    ));
 }

@@ -1,9 +1,12 @@
-// What hands know from debuggers and shells: short names of commands, and operands that need not be typed. Each stands for a line of the monitor.
+// What hands know from debuggers and shells: short names of commands, and operands that need not be typed. Each stands for a line of the
+// monitor.
 import { wordsOf } from "./lines.mjs";
 
 export const SHORT = new Map([["s", "step"], ["c", "run"], ["b", "back"], ["?", "help"], ["exit", "quit"]]);
 /** The number of a command that is typed without one: `run` goes on until the machine rests, or a rule stops it. */
-const NUMBERS = new Map([["run", "9999999999"], ["back", "1"], ["step", "1"], ["trace", "10"], ["profile", "10000"], ["optimum", "10000"], ["drum", "10"]]);
+const NUMBERS = new Map([
+    ["run", "9999999999"], ["back", "1"], ["step", "1"], ["trace", "10"], ["profile", "10000"], ["optimum", "10000"], ["drum", "10"],
+]);
 /** Commands that show words: the counter's where no address is typed, and eight where no number is. */
 const RANGES = ["words", "show", "numbers"];
 const COUNTER = "*";

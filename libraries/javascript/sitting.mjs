@@ -28,13 +28,21 @@ export async function sitWith(engine) {
     const completion = new Completion((line) => engine.ask(line), OWN, fileNames);
     const keyboard = new Keyboard({ completer: (line) => completion.at(line), history: shelf.history(), isPlain });
     try {
-        const front = new Front({ engine, keyboard, shelf, aliases, write, hasColour, isPlain, columns: () => process.stdout.columns || 80 });
+        const front = new Front({
+            engine, keyboard, shelf, aliases, write, hasColour, isPlain, columns: () => process.stdout.columns || 80,
+        });
         completion.openSource = () => front.openSource;
         completion.shortNames = () => [...aliases.all.keys()];
         await front.sit();
         await engine.close();
     } catch (failure) {
-        if (failure instanceof NoMemory) write(`there was not enough memory for this line. ${shelf.trouble === null ? KEPT : `Nothing of the session could be kept ${shelf.trouble}`}\n`);
+        if (failure instanceof NoMemory) {
+            write(
+                `there was not enough memory for this line. ${shelf.trouble === null
+                    ? KEPT
+                    : `Nothing of the session could be kept ${shelf.trouble}`}\n`
+            );
+        }
         await engine.end();
         throw failure;
     } finally {

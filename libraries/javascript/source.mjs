@@ -1,4 +1,5 @@
-// What the monitor says of a source, line by line: its reply to `json source-data`, which it gives for faulty sources too. Nothing of the language is known here.
+// What the monitor says of a source, line by line: its reply to `json source-data`, which it gives for faulty sources too. Nothing of the
+// language is known here.
 import { ReplyError, linesOf } from "./replies.mjs";
 
 /** The lines that type a source. A line that is only a point would end it: two points are the same fault, at the same place. */
@@ -7,8 +8,21 @@ export const typedSource = (lines) => ["source", ...lines.map((line) => (line ==
 /** The columns of one operand or two. */
 const operandsOf = (columns) => (columns === null ? [] : columns.flatMap((from, at) => (at % 2 === 0 ? [[from, columns[at + 1]]] : [])));
 
-function lineOf({ line, label = null, operation = null, operands = null, comment = null, declared = null, place = null, digits = null, fault, at = null, first = null }) {
-    return { line, label, operation, operands: operandsOf(operands), comment, declared, place, digits, fault: fault === null ? null : { kind: fault, at, first } };
+function lineOf({
+    line, label = null, operation = null, operands = null, comment = null, declared = null, place = null, digits = null, fault, at = null,
+    first = null,
+}) {
+    return {
+        line,
+        label,
+        operation,
+        operands: operandsOf(operands),
+        comment,
+        declared,
+        place,
+        digits,
+        fault: fault === null ? null : { kind: fault, at, first },
+    };
 }
 
 /** Whether the record of a line, which is not read yet, has a fault. */
@@ -21,7 +35,9 @@ export class Source {
 
     constructor(reply) {
         this.#records = linesOf(reply);
-        if (this.#records.some((record) => !record.startsWith("{"))) throw new ReplyError(`no lines of a source: ${JSON.stringify(reply.slice(0, 80))}`);
+        if (this.#records.some((record) => !record.startsWith("{"))) {
+            throw new ReplyError(`no lines of a source: ${JSON.stringify(reply.slice(0, 80))}`);
+        }
     }
 
     /** What a line is, counted from 1; undefined past the end. */
@@ -56,6 +72,8 @@ export class Source {
     /** The line whose word is at a place, or undefined. */
     lineAt(place) {
         const isThere = `"place":"${place}"`;
-        for (const [at, record] of this.#records.entries()) if (record.includes(isThere) && this.line(at + 1).digits !== null) return this.line(at + 1);
+        for (const [at, record] of this.#records.entries()) {
+            if (record.includes(isThere) && this.line(at + 1).digits !== null) return this.line(at + 1);
+        }
     }
 }

@@ -143,7 +143,9 @@ Runs one of the two programs over the proved module. With --help after its name 
 
 function work() {
     if (!PROGRAMS.includes(program)) {
-        if (program !== "--help" && program !== "-h") throw new MistakenWords(`there is no program '${program ?? ""}'`, "node terminal.mjs lgp_lab|lgp_monitor WORDS..");
+        if (program !== "--help" && program !== "-h") {
+            throw new MistakenWords(`there is no program '${program ?? ""}'`, "node terminal.mjs lgp_lab|lgp_monitor WORDS..");
+        }
         write(Buffer.from(USAGE_TEXT));
         return WELL;
     }

@@ -30,7 +30,9 @@ export class ThreadEngine {
         const workerData = { module: this.#module, region: this.#region, image };
         const thread = new Worker(new URL("engine_thread.mjs", import.meta.url), { workerData });
         thread.on("message", (message) => thread === this.#thread && this.#hear(message));
-        thread.on("error", ({ message, code }) => thread === this.#thread && this.#hear({ failure: message, isMemory: code === OUT_OF_MEMORY }));
+        thread.on("error", ({ message, code }) => (
+            thread === this.#thread && this.#hear({ failure: message, isMemory: code === OUT_OF_MEMORY })
+        ));
         this.#thread = thread;
     }
 

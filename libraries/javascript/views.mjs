@@ -1,4 +1,5 @@
-// What a terminal shows beside the replies: where the machine is, the panel in a few lines, and accounts in 80 columns. All of it is read from
+// What a terminal shows beside the replies: where the machine is, the panel in a few lines, and accounts in 80 columns. All of it is read
+// from
 // replies that are asked for when it is shown.
 import { accountsOf, fractionOf, isRefusal, recordsOf, reportOf } from "./replies.mjs";
 
@@ -29,12 +30,19 @@ export class Views {
         const words = recordsOf(await this.#ask(`json show-data ${addressOf(first)} ${count}`));
         return words.map((word) => {
             const isMarked = word.get("address") === address;
-            const line = `${isMarked ? ">" : " "} ${word.get("address")} ${left(word.get("label") ?? "", 8)}  ${word.get("digits")}  ${word.get("order") ?? ""}`.trimEnd();
+            const line =
+                `${isMarked
+                    ? ">"
+                    : " "} ${word.get("address")} ${left(word.get("label") ?? "", 8)}  ${word.get("digits")}  ${word.get("order")
+                    ?? ""}`.trimEnd();
             return isMarked && this.#hasColour ? `\x1b[1m${line}\x1b[0m` : line;
         });
     }
 
-    /** Where the machine is, if it has moved: three words around the counter, the accumulator, the words that are displayed, and what was printed since. */
+    /**
+     * Where the machine is, if it has moved: three words around the counter, the accumulator, the words that are displayed, and what was
+     * printed since.
+     */
     async afterMove() {
         const state = await this.#state();
         const clock = state.get("clock");
@@ -86,14 +94,19 @@ export class Views {
         return recordsOf(await this.#ask(`json paper-data ${count}`));
     }
 
-    /** What was printed since this was asked last, as its signs; null where nothing was. The last code is asked for too: where it is gone, the machine went back. */
+    /**
+     * What was printed since this was asked last, as its signs; null where nothing was. The last code is asked for too: where it is gone,
+     * the machine went back.
+     */
     async #printedSince() {
         const last = Math.min(this.#printed, 1);
         const found = await this.#codesAfter(this.#printed - last);
         const codes = found.slice(last);
         this.#printed = found.length < last ? (await this.#codesAfter(0)).length : this.#printed + codes.length;
         if (codes.length === 0) return null;
-        return codes.length > MOST_PRINTED ? `codes: ${codes.length}` : codes.map((code) => code.get("sign") ?? `[${code.get("code")}]`).join("");
+        return codes.length > MOST_PRINTED
+            ? `codes: ${codes.length}`
+            : codes.map((code) => code.get("sign") ?? `[${code.get("code")}]`).join("");
     }
 
     /** The panel in lines of at most 80 columns. */
@@ -120,7 +133,9 @@ function formsOf(word) {
 }
 
 /** The accumulator as digits, whole number and fraction. */
-const accumulatorOf = (state) => `accumulator ${state.get("accumulator")} = ${state.get("accumulator-number")} or ${fractionOf(state.get("accumulator")).toFixed(10)}`;
+const accumulatorOf = (state) => (
+    `accumulator ${state.get("accumulator")} = ${state.get("accumulator-number")} or ${fractionOf(state.get("accumulator")).toFixed(10)}`
+);
 
 const numberOf = (address) => Number(address.slice(0, 2)) * 64 + Number(address.slice(2));
 const addressOf = (number) => [Math.floor(number / 64), number % 64].map((part) => String(part).padStart(2, "0")).join("");
@@ -138,10 +153,22 @@ export function narrowRows(reply) {
 const HEADING = "   clock at            order         find take seek act   sum accumulator";
 
 function narrowRow({ clock, at, label, order, find, take, seek, act, sum, after, origin, stored, printed, passed }) {
-    const row = `${right(clock, 8)} ${left(at === null ? "" : `${at} ${label ?? ""}`, 13)} ${left(order, 13)} ${right(find, 4)} ${right(take, 4)} ${right(seek, 4)} ${right(act, 3)} ${right(sum, 5)} ${after}`;
+    const row = `${right(clock, 8)} ${left(
+        at === null ? "" : `${at} ${label ?? ""}`, 13
+    )} ${left(order, 13)} ${right(find, 4)} ${right(take, 4)} ${right(seek, 4)} ${right(act, 3)} ${right(sum, 5)} ${after}`;
     const lines = [row];
-    if (origin !== null) lines.push(`        put there by ${origin.order ?? "hand"}${origin.at === null ? "" : ` at ${origin.at}`}, clock ${origin.clock}; before it was ${origin.lost}`);
-    if (stored !== null) lines.push(`        ${stored.address}: ${stored.before.order ?? stored.before.digits} = ${stored.before.number} -> ${stored.after.order ?? stored.after.digits} = ${stored.after.number}`);
+    if (origin !== null) {
+        lines.push(
+            `        put there by ${origin.order
+                ?? "hand"}${origin.at === null ? "" : ` at ${origin.at}`}, clock ${origin.clock}; before it was ${origin.lost}`
+        );
+    }
+    if (stored !== null) {
+        lines.push(
+            `        ${stored.address}: ${stored.before.order
+                ?? stored.before.digits} = ${stored.before.number} -> ${stored.after.order ?? stored.after.digits} = ${stored.after.number}`
+        );
+    }
     if (printed !== null) lines.push(`        printed ${printed.sign ?? `code ${printed.code}`}`);
     if (passed > 0) lines.push(`        codes passed: ${passed}`);
     return lines;

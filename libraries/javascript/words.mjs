@@ -46,9 +46,15 @@ function operandsOf(command, words) {
     const most = command === "batch" ? Infinity : wanted.length;
     if (names.length > most) throw new MistakenWords(`unexpected argument '${names[most]}' found`, usage);
     const missing = wanted.slice(names.length);
-    if (missing.length > 0) throw new MistakenWords(`the following required arguments were not provided:\n${missing.map((each) => `  ${each}`).join("\n")}`, usage);
+    if (missing.length > 0) {
+        throw new MistakenWords(
+            `the following required arguments were not provided:\n${missing.map((each) => `  ${each}`).join("\n")}`, usage
+        );
+    }
     const [, limit] = names;
-    if (command === "run" && !(/^\+?\d+$/.test(limit) && Number(limit) <= MOST_ORDERS)) throw new MistakenWords(`invalid value '${limit}' for '<LIMIT>': it is a number from 0 to ${MOST_ORDERS}`, usage);
+    if (command === "run" && !(/^\+?\d+$/.test(limit) && Number(limit) <= MOST_ORDERS)) {
+        throw new MistakenWords(`invalid value '${limit}' for '<LIMIT>': it is a number from 0 to ${MOST_ORDERS}`, usage);
+    }
     return names;
 }
 
@@ -56,7 +62,11 @@ function operandsOf(command, words) {
 export function taskOf(words) {
     const [command, ...rest] = readable(words);
     if (command === undefined) return { command: "stdin", files: [] };
-    if (!Object.hasOwn(COMMANDS, command)) throw new MistakenWords(`${command.startsWith("-") ? "unexpected argument" : "unrecognized subcommand"} '${command}'`, "lgp_lab [COMMAND]");
+    if (!Object.hasOwn(COMMANDS, command)) {
+        throw new MistakenWords(
+            `${command.startsWith("-") ? "unexpected argument" : "unrecognized subcommand"} '${command}'`, "lgp_lab [COMMAND]"
+        );
+    }
     const operands = operandsOf(command, rest);
     return command === "run" ? { command, files: [operands[0]], limit: Number(operands[1]) } : { command, files: operands };
 }

@@ -12,12 +12,22 @@ const manifest = JSON.parse(readFileSync(`${top}libraries/javascript/package.jso
 
 test("About has the addresses of the manifest, and names none that it lacks", () => {
     assert.deepEqual(addressesIn({ version: "1" }), []);
-    const filled = { homepage: "https://lgp.example/", repository: { type: "git", url: "git+https://lgp.example/lab.git" }, bugs: { url: "https://lgp.example/issues" } };
-    assert.deepEqual(addressesIn(filled), [["homePage", "https://lgp.example/"], ["repository", "https://lgp.example/lab.git"], ["issues", "https://lgp.example/issues"]]);
-    for (const [code, texts] of Object.entries(LANGUAGES)) for (const [name] of addressesIn(filled)) assert.ok(texts[name], `${name} in ${code}`);
+    const filled = {
+        homepage: "https://lgp.example/",
+        repository: { type: "git", url: "git+https://lgp.example/lab.git" },
+        bugs: { url: "https://lgp.example/issues" },
+    };
+    assert.deepEqual(addressesIn(filled), [
+        ["homePage", "https://lgp.example/"], ["repository", "https://lgp.example/lab.git"], ["issues", "https://lgp.example/issues"],
+    ]);
+    for (const [code, texts] of Object.entries(LANGUAGES)) {
+        for (const [name] of addressesIn(filled)) assert.ok(texts[name], `${name} in ${code}`);
+    }
 });
 
 test("these are those of tools/packages/address", () => {
-    const values = ["home page", "repository", "issues"].map((name) => spawnSync("python3", [`${top}tools/address`, name], { encoding: "utf8" }).stdout.trim());
+    const values = ["home page", "repository", "issues"].map((name) => (
+        spawnSync("python3", [`${top}tools/address`, name], { encoding: "utf8" }).stdout.trim()
+    ));
     assert.deepEqual(addressesIn(manifest).map(([, url]) => url), values.filter((value) => value !== ""));
 });

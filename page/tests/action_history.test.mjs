@@ -59,7 +59,10 @@ test("the tape is that of the last mounting that counts", () => {
 });
 
 test("addresses", () => {
-    assert.deepEqual([numberOf("0100"), addressOf(63), addressOf(4095), addressIn("b 0050 table+1"), addressIn("word 00000001")], [64, "0063", "6363", "0050", null]);
+    assert.deepEqual(
+        [numberOf("0100"), addressOf(63), addressOf(4095), addressIn("b 0050 table+1"), addressIn("word 00000001")],
+        [64, "0063", "6363", "0050", null]
+    );
     assert.deepEqual([windowAt("0000", 16), windowAt("6363", 16), windowAt("0100", 16)], ["0000", "6348", "0059"]);
     assert.deepEqual([isAmong("0100", "0059", 16), isAmong("0058", "0059", 16)], [true, false]);
 });
@@ -70,9 +73,14 @@ test("sectors lie as docs/MACHINE.md draws them", () => {
 });
 
 test("portions come near to their time", () => {
-    assert.deepEqual([nextPortion(100_000, 50), nextPortion(100_000, 100), nextPortion(100_000, 1), nextPortion(100_000, 5000)], [100_000, 50_000, 400_000, 25_000]);
+    assert.deepEqual(
+        [nextPortion(100_000, 50), nextPortion(100_000, 100), nextPortion(100_000, 1), nextPortion(100_000, 5000)],
+        [100_000, 50_000, 400_000, 25_000]
+    );
     // beside other work a portion takes long, and has 20,000 orders all the same; runs that each wait for a typewriter are fewer
-    assert.deepEqual([nextPortion(20_000, 60_000), nextPortion(100, 60_000, "operate"), nextPortion(1000, 50, "operate")], [20_000, 100, 1000]);
+    assert.deepEqual(
+        [nextPortion(20_000, 60_000), nextPortion(100, 60_000, "operate"), nextPortion(1000, 50, "operate")], [20_000, 100, 1000]
+    );
 });
 
 test("the head of a script, and how far it sets up", () => {
@@ -85,25 +93,51 @@ test("the head of a script, and how far it sets up", () => {
 
 test("what an address asks for", () => {
     assert.deepEqual(askedIn({ search: "?kiosk=games/matches&idle=60&lang=de", hash: "" }),
-        { isKiosk: true, script: null, work: null, exhibit: null, example: "games/matches", language: "de", door: "hall", idleSeconds: 60, offers: null, isProjected: false, lesson: null, step: null, task: null, story: null, caption: null, game: null, seconds: null });
+        {
+            isKiosk: true, script: null, work: null, exhibit: null, example: "games/matches", language: "de", door: "hall", idleSeconds: 60,
+            offers: null, isProjected: false, lesson: null, step: null, task: null, story: null, caption: null, game: null, seconds: null,
+        });
     assert.equal(askedIn({ search: "", hash: "#script=put%200000%2000000000%0Apanel" }).script, "put 0000 00000000\npanel");
-    assert.deepEqual([askedIn({ search: "", hash: "#kiosk" }).isKiosk, askedIn({ search: "", hash: "#first-run" }).example], [true, "first-run"]);
+    assert.deepEqual(
+        [askedIn({ search: "", hash: "#kiosk" }).isKiosk, askedIn({ search: "", hash: "#first-run" }).example], [true, "first-run"]
+    );
     assert.equal(askedIn({ search: "", hash: "#%E0%A4%A" }).example, "%E0%A4%A");
-    const doors = [["", ""], ["?door=look", ""], ["?door=learn&lang=de", "#first-run"], ["?door=cellar", ""], ["", "#first-run"], ["", "#script=panel"]];
+    const doors = [
+        ["", ""], ["?door=look", ""], ["?door=learn&lang=de", "#first-run"], ["?door=cellar", ""], ["", "#first-run"],
+        ["", "#script=panel"],
+    ];
     assert.deepEqual(doors.map(([search, hash]) => askedIn({ search, hash }).door), ["hall", "look", "learn", "hall", "work", "work"]);
 });
 
 test("an address asks for the projector's view, and for no more than that", () => {
-    for (const [search, shown] of [["?lang=de&lesson=rewriting&step=9", "?lang=de&lesson=rewriting&step=9&projector"], ["", "?projector"]]) {
-        assert.deepEqual([projected(true, { search, hash: "#x" }), projected(false, { search: shown, hash: "" }), askedIn({ search: shown, hash: "" }).isProjected], [`${shown}#x`, search === "" ? "?" : search, true]);
+    for (const [search, shown] of [
+        ["?lang=de&lesson=rewriting&step=9", "?lang=de&lesson=rewriting&step=9&projector"], ["", "?projector"],
+    ]) {
+        assert.deepEqual(
+            [
+                projected(true, { search, hash: "#x" }),
+                projected(false, { search: shown, hash: "" }),
+                askedIn({ search: shown, hash: "" }).isProjected,
+            ],
+            [`${shown}#x`, search === "" ? "?" : search, true]
+        );
     }
-    assert.equal(askedIn({ search: placeOf({ lesson: "rewriting", step: 2 }, { search: "?lesson=rewriting&step=1&projector" }), hash: "" }).isProjected, true);
+    assert.equal(
+        askedIn({
+            search: placeOf({ lesson: "rewriting", step: 2 }, { search: "?lesson=rewriting&step=1&projector" }), hash: "",
+        }).isProjected,
+        true
+    );
 });
 
 test("an address says where one is, and asks for the same", () => {
     const places = [
-        [{ door: "learn", lesson: "rewriting", step: 9 }, "?lang=de&lesson=rewriting&step=9"], [{ door: "learn", task: "sum" }, "?lang=de&task=sum"],
-        [{ door: "look", story: 2, caption: 3 }, "?lang=de&story=2&caption=3"], [{ door: "look", game: "faster" }, "?lang=de&game=faster"], [{ door: "work", example: "tables/primes" }, "?lang=de&door=work#tables/primes"], [{ kiosk: "games/matches" }, "?lang=de&kiosk=games/matches"],
+        [{ door: "learn", lesson: "rewriting", step: 9 }, "?lang=de&lesson=rewriting&step=9"],
+        [{ door: "learn", task: "sum" }, "?lang=de&task=sum"],
+        [{ door: "look", story: 2, caption: 3 }, "?lang=de&story=2&caption=3"],
+        [{ door: "look", game: "faster" }, "?lang=de&game=faster"],
+        [{ door: "work", example: "tables/primes" }, "?lang=de&door=work#tables/primes"],
+        [{ kiosk: "games/matches" }, "?lang=de&kiosk=games/matches"],
     ];
     for (const [place, address] of places) {
         assert.equal(placeOf(place, { search: "?lang=de&door=work&lesson=other&step=3" }), address);
@@ -111,10 +145,18 @@ test("an address says where one is, and asks for the same", () => {
         const asked = askedIn({ search, hash });
         for (const [name, value] of Object.entries(place)) if (name !== "kiosk") assert.equal(asked[name], value, `${name} of ${address}`);
     }
-    assert.deepEqual([askedIn({ search: "?kiosk=games/matches", hash: "" }).example, inLanguage("en", { search: "?lang=de&task=sum", hash: "" })], ["games/matches", "?lang=en&task=sum"]);
-    assert.deepEqual(["0", "-1", "x", "9999"].map((step) => askedIn({ search: `?lesson=rewriting&step=${step}`, hash: "" }).step), [null, null, null, null]);
+    assert.deepEqual(
+        [askedIn({ search: "?kiosk=games/matches", hash: "" }).example, inLanguage("en", { search: "?lang=de&task=sum", hash: "" })],
+        ["games/matches", "?lang=en&task=sum"]
+    );
+    assert.deepEqual(
+        ["0", "-1", "x", "9999"].map((step) => askedIn({ search: `?lesson=rewriting&step=${step}`, hash: "" }).step),
+        [null, null, null, null]
+    );
 });
 
 test("a run that prints has as many orders as still print what it may", () => {
-    assert.deepEqual([ordersUntilAsked(1000, 0), ordersUntilAsked(20_000, 10_000), ordersUntilAsked(30_000, 20_000)], [Infinity, 20_000, 1]);
+    assert.deepEqual(
+        [ordersUntilAsked(1000, 0), ordersUntilAsked(20_000, 10_000), ordersUntilAsked(30_000, 20_000)], [Infinity, 20_000, 1]
+    );
 });

@@ -12,7 +12,10 @@ const FILES = 30;
 const KINDS = ["sum.source", "sum.wrong-1.source"];
 
 /** The lines by which a document shows the check of a class. */
-const shown = (name) => [...readFileSync(join(top, "teaching/tasks", name), "utf8").matchAll(/^ {4}((?:node page\/check_task\.mjs|\.\/check_task) .*)$/gm)].map(([, line]) => line);
+const shown =
+    (name) => [
+        ...readFileSync(join(top, "teaching/tasks", name), "utf8").matchAll(/^ {4}((?:node page\/check_task\.mjs|\.\/check_task) .*)$/gm),
+    ].map(([, line]) => line);
 
 for (const name of ["README.md", "README.de.md"]) test(`thirty files are checked as ${name} shows`, () => {
     const folder = mkdtempSync(join(tmpdir(), "class-"));
@@ -20,7 +23,10 @@ for (const name of ["README.md", "README.de.md"]) test(`thirty files are checked
         mkdirSync(join(folder, "class"));
         for (const part of ["page", "check_task"]) symlinkSync(join(top, part), join(folder, part));
         for (let pupil = 0; pupil < FILES; pupil += 1) {
-            copyFileSync(join(top, "teaching/tasks/solutions", KINDS[pupil % KINDS.length]), join(folder, `class/${String(pupil).padStart(2, "0")}.source`));
+            copyFileSync(
+                join(top, "teaching/tasks/solutions", KINDS[pupil % KINDS.length]),
+                join(folder, `class/${String(pupil).padStart(2, "0")}.source`)
+            );
         }
         const lines = shown(name);
         assert.equal(lines.length, 2);

@@ -6,7 +6,10 @@ import { join } from "node:path";
 import { Driver } from "./driver.mjs";
 
 /** The codes of keys, as Windows numbers them, that are no letter, digit or blank. */
-const CODES = { Tab: 9, Enter: 13, Escape: 27, PageUp: 33, PageDown: 34, End: 35, Home: 36, ArrowLeft: 37, ArrowUp: 38, ArrowRight: 39, ArrowDown: 40, F1: 112, F4: 115, F5: 116, F8: 119, F9: 120, F10: 121, ";": 186, "=": 187, "+": 187, ",": 188, "-": 189, ".": 190, "/": 191, "'": 222 };
+const CODES = {
+    Tab: 9, Enter: 13, Escape: 27, PageUp: 33, PageDown: 34, End: 35, Home: 36, ArrowLeft: 37, ArrowUp: 38, ArrowRight: 39, ArrowDown: 40,
+    F1: 112, F4: 115, F5: 116, F8: 119, F9: 120, F10: 121, ";": 186, "=": 187, "+": 187, ",": 188, "-": 189, ".": 190, "/": 191, "'": 222,
+};
 
 /** A page of a Chromium without a window. */
 export class Chromium extends Driver {
@@ -32,8 +35,11 @@ export class Chromium extends Driver {
     }
 
     #launch(flags) {
-        const words = ["--headless=new", "--no-sandbox", "--disable-gpu", "--disable-dev-shm-usage", "--no-first-run", "--hide-scrollbars", "--lang=en",
-            `--user-data-dir=${this.#folder}`, "--remote-debugging-pipe", ...flags];
+        const words = [
+            "--headless=new", "--no-sandbox", "--disable-gpu", "--disable-dev-shm-usage", "--no-first-run", "--hide-scrollbars",
+            "--lang=en",
+            `--user-data-dir=${this.#folder}`, "--remote-debugging-pipe", ...flags
+        ];
         this.#process = spawn(process.env.CHROMIUM ?? "chromium", words, { stdio: ["ignore", "ignore", "ignore", "pipe", "pipe"] });
         this.#process.stdio[4].setEncoding("utf8");
         this.#process.stdio[4].on("data", (piece) => this.#take(piece));
@@ -46,7 +52,9 @@ export class Chromium extends Driver {
     }
 
     #settle({ id, result, error, method, params }) {
-        if (method === "Runtime.exceptionThrown") this.told.push(params.exceptionDetails.exception?.description ?? params.exceptionDetails.text);
+        if (method === "Runtime.exceptionThrown") {
+            this.told.push(params.exceptionDetails.exception?.description ?? params.exceptionDetails.text);
+        }
         if (method === "Runtime.consoleAPICalled") this.told.push(params.args.map(({ value }) => value).join(" "));
         if (!this.#waiting.has(id)) return;
         const { resolve, reject } = this.#waiting.get(id);
@@ -72,7 +80,9 @@ export class Chromium extends Driver {
     }
 
     async run(script) {
-        const { result, exceptionDetails } = await this.ask("Runtime.evaluate", { expression: script, awaitPromise: true, returnByValue: true });
+        const { result, exceptionDetails } = await this.ask("Runtime.evaluate", {
+            expression: script, awaitPromise: true, returnByValue: true,
+        });
         if (exceptionDetails !== undefined) throw new Error(exceptionDetails.exception?.description ?? exceptionDetails.text);
         return result.value;
     }
@@ -120,7 +130,14 @@ export class Chromium extends Driver {
     async #mouse(step) {
         const { x, y, isDown } = this.#step(step);
         const type = Array.isArray(step) ? "mouseMoved" : isDown ? "mousePressed" : "mouseReleased";
-        await this.ask("Input.dispatchMouseEvent", { type, x, y, button: type === "mouseMoved" && !isDown ? "none" : "left", buttons: isDown ? 1 : 0, clickCount: type === "mouseMoved" ? 0 : 1 });
+        await this.ask("Input.dispatchMouseEvent", {
+            type,
+            x,
+            y,
+            button: type === "mouseMoved" && !isDown ? "none" : "left",
+            buttons: isDown ? 1 : 0,
+            clickCount: type === "mouseMoved" ? 0 : 1,
+        });
     }
 
     async #finger(step) {

@@ -18,14 +18,23 @@ test("what is said of thirty files is what ./check_task says", async () => {
     const folder = mkdtempSync(join(tmpdir(), "class-"));
     try {
         mkdirSync(join(folder, "class"));
-        for (let pupil = 0; pupil < 30; pupil += 1) copyFileSync(join(top, "teaching/tasks/solutions", KINDS[pupil % KINDS.length]), join(folder, `class/${String(pupil).padStart(2, "0")}.source`));
+        for (let pupil = 0; pupil < 30; pupil += 1) {
+            copyFileSync(
+                join(top, "teaching/tasks/solutions", KINDS[pupil % KINDS.length]),
+                join(folder, `class/${String(pupil).padStart(2, "0")}.source`)
+            );
+        }
         const names = readdirSync(join(folder, "class")).sort().map((name) => `class/${name}`);
-        const { stdout } = spawnSync("node", [join(top, "page/check_task.mjs"), "--language", "de", "sum", ...names], { cwd: folder, encoding: "utf8" });
+        const { stdout } = spawnSync(
+            "node", [join(top, "page/check_task.mjs"), "--language", "de", "sum", ...names], { cwd: folder, encoding: "utf8" }
+        );
         const files = names.map((name) => ({ name, file: new Blob([readFileSync(join(folder, name))]) }));
         const sentences = Object.assign({}, ...["en", "de"].map((code) => sentencesIn(stored(`teaching/tasks/language/${code}`))));
         const places = [];
         const link = new ModuleLink(join(top, "libraries/javascript/lgp_c_region.wasm"));
-        const verdicts = await checkClass(link, files, { task: taskIn(stored("teaching/tasks/sum/task")), sentences, code: "de", told: (at) => places.push(at) });
+        const verdicts = await checkClass(link, files, {
+            task: taskIn(stored("teaching/tasks/sum/task")), sentences, code: "de", told: (at) => places.push(at),
+        });
         assert.equal(textOf(verdicts), stdout);
         assert.deepEqual([places.length, places.at(-1), verdicts.filter(({ isRight }) => isRight).length], [30, 30, 10]);
     } finally {
@@ -33,8 +42,18 @@ test("what is said of thirty files is what ./check_task says", async () => {
     }
 });
 
-const fileEntry = (path) => ({ name: path.split("/").at(-1), fullPath: path, isFile: true, isDirectory: false, file: (resolve) => resolve(path) });
-const folderEntry = (path, parts) => ({ name: path.slice(1), fullPath: path, isFile: false, isDirectory: true, createReader: () => ({ readEntries: (resolve) => resolve(parts.shift() ?? []) }) });
+const fileEntry = (path) => (
+    { name: path.split("/").at(-1), fullPath: path, isFile: true, isDirectory: false, file: (resolve) => resolve(path) }
+);
+const folderEntry = (path, parts) => (
+    {
+        name: path.slice(1),
+        fullPath: path,
+        isFile: false,
+        isDirectory: true,
+        createReader: () => ({ readEntries: (resolve) => resolve(parts.shift() ?? []) }),
+    }
+);
 
 test("a folder is read to its end, in the order of names, without hidden files; files alone are themselves", async () => {
     const folder = folderEntry("/class", [[fileEntry("/class/b.source"), fileEntry("/class/.hidden")], [fileEntry("/class/a.source")]]);

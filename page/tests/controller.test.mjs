@@ -18,7 +18,10 @@ const top = join(dirname(fileURLToPath(import.meta.url)), "../..");
 const program = process.env.MONITOR ?? join(top, "crates/lgp30m/out/lgp30m");
 const module = join(top, "libraries/javascript/lgp_c_region.wasm");
 const exampleNamed = (name) => readFileSync(join(top, `examples/${name}.txt`), "utf8");
-const names = readdirSync(join(top, "examples"), { recursive: true }).map(String).filter((name) => name.endsWith(".txt")).map((name) => name.slice(0, -".txt".length));
+const names = readdirSync(join(top, "examples"), { recursive: true })
+    .map(String)
+    .filter((name) => name.endsWith(".txt"))
+    .map((name) => name.slice(0, -".txt".length));
 const LINKS = [
     { name: "module", isThere: existsSync(module), open: () => new ModuleLink(module) },
     { name: "program", isThere: existsSync(program), open: () => new NativeLink(program) },
@@ -62,10 +65,15 @@ live("an action is under way until its change is told: what is known before that
 
 live("which orders use a word is what the monitor says of its operations", async (laboratory, link) => {
     const letters = [..."zbyridnmpeuthcas"];
-    const waits = new Map(recordsOf(await link.ask("json operations-data")).map((record) => [record.get("operation"), record.get("waits") === "yes"]));
+    const waits = new Map(
+        recordsOf(await link.ask("json operations-data")).map((record) => [record.get("operation"), record.get("waits") === "yes"])
+    );
     assert.deepEqual(letters.map((letter) => laboratory.usesWord(letter)), letters.map((letter) => waits.get(letter)));
     assert.deepEqual(letters.filter((letter) => laboratory.wordOf(`${letter} 0020`) === null).join(""), "ziput");
-    assert.deepEqual(["b 0050 table+1", "-t 0007", "word 0000001f", "halted stop", ""].map((text) => laboratory.wordOf(text)), ["0050", null, null, null, null]);
+    assert.deepEqual(
+        ["b 0050 table+1", "-t 0007", "word 0000001f", "halted stop", ""].map((text) => laboratory.wordOf(text)),
+        ["0050", null, null, null, null]
+    );
     await laboratory.say("put 0000 b 0050", "put 0001 u 0000", "press start");
     assert.equal(laboratory.operand, "0050");
     await laboratory.step();
@@ -153,7 +161,11 @@ live("nothing is lost where someone went somewhere in between", async (laborator
 live("each example gives its stored replies, where all its lines are asked at once", async (laboratory, link) => {
     for (const name of names) {
         await link.anew();
-        assert.equal(withoutReasons(await link.askAll(linesIn(exampleNamed(name)))), readFileSync(join(top, `examples/${name}.expected`), "utf8"), name);
+        assert.equal(
+            withoutReasons(await link.askAll(linesIn(exampleNamed(name)))),
+            readFileSync(join(top, `examples/${name}.expected`), "utf8"),
+            name
+        );
     }
 });
 
@@ -205,7 +217,10 @@ live("before memory ends nothing more is begun, and all can be saved", async (la
     assert.equal(laboratory.notice.kind, "usedUp");
     assert.ok(laboratory.printed.count <= LIMITS.codes && laboratory.printed.count > 0.9 * LIMITS.codes);
     const sent = link.sent.length;
-    for (const action of [() => laboratory.step(), () => laboratory.run(), () => laboratory.say("run 1"), () => laboratory.command("press manual"), () => laboratory.assemble(" z")]) {
+    for (const action of [
+        () => laboratory.step(), () => laboratory.run(), () => laboratory.say("run 1"), () => laboratory.command("press manual"),
+        () => laboratory.assemble(" z"),
+    ]) {
         await action();
         assert.equal(laboratory.notice.kind, "usedUp");
     }
@@ -267,7 +282,9 @@ live("a script has what the reader did: no look, no row of the drum, no ring of 
     await laboratory.say("words 0050 1");
     assert.notEqual(laboratory.profile, null);
     const script = await laboratory.transcript();
-    assert.equal(script, "put 0000 000100j8\nput 0001 000q00j8\nput 0002 00000000\nbreak 0100\npress start\nrun 1\nrun 1\nrun 1\nwords 0050 1\n");
+    assert.equal(
+        script, "put 0000 000100j8\nput 0001 000q00j8\nput 0002 00000000\nbreak 0100\npress start\nrun 1\nrun 1\nrun 1\nwords 0050 1\n"
+    );
     assert.ok((await link.ask("transcript")).length > script.length);
     assert.deepEqual(laboratory.lines.slice(4), ["press start", "json trace-data 1", "trace 1", "profile 1", "words 0050 1"]);
     const { clock } = laboratory.panel;
@@ -276,7 +293,9 @@ live("a script has what the reader did: no look, no row of the drum, no ring of 
 });
 
 live("a run that prints asks after 20,000 codes, however fast it prints", async (laboratory) => {
-    for (const words of [["p =h", "u 0000"], ["p =h", "b 0000", "b 0000", "b 0000", "u 0000"], ["b 0000", ...Array(30).fill("b 0000"), "p =h", "u 0000"]]) {
+    for (const words of [
+        ["p =h", "u 0000"], ["p =h", "b 0000", "b 0000", "b 0000", "u 0000"], ["b 0000", ...Array(30).fill("b 0000"), "p =h", "u 0000"],
+    ]) {
         await laboratory.new();
         await laboratory.say(...words.map((word, at) => `put ${String(at).padStart(4, "0")} ${word}`), "press start");
         await laboratory.run();
@@ -297,14 +316,19 @@ live("a laboratory is restored by its lines, a source that is open and a half-do
     await laboratory.new();
     assert.deepEqual([laboratory.script, laboratory.panel.clock], [null, 0n]);
     await laboratory.restore(saved);
-    assert.deepEqual([laboratory.lines, laboratory.openSource, laboratory.script, laboratory.history.behind], [lines, [" b 0050"], saved.script, behind]);
+    assert.deepEqual(
+        [laboratory.lines, laboratory.openSource, laboratory.script, laboratory.history.behind], [lines, [" b 0050"], saved.script, behind]
+    );
     await laboratory.say(".", "new");
     assert.equal(laboratory.script, null);
 });
 
 live("a line that could print or tell more than memory holds is not begun", async (laboratory) => {
     await laboratory.say("put 0000 p =h", "put 0001 u 0000", "press start");
-    for (const [line, most] of [["orders 2000000", LIMITS.codes], ["profile 1000001", LIMITS.codes], ["trace 20000", LIMITS.told], [" drum  20000 ", LIMITS.told], ["json trace-data 10001", LIMITS.told], ["profile-data 1000001", LIMITS.codes]]) {
+    for (const [line, most] of [
+        ["orders 2000000", LIMITS.codes], ["profile 1000001", LIMITS.codes], ["trace 20000", LIMITS.told], [" drum  20000 ", LIMITS.told],
+        ["json trace-data 10001", LIMITS.told], ["profile-data 1000001", LIMITS.codes],
+    ]) {
         await laboratory.say(line);
         assert.deepEqual(laboratory.notice, { kind: "tooMany", line, most });
     }
@@ -317,7 +341,10 @@ live("a line that could print or tell more than memory holds is not begun", asyn
 live("a line that runs for long is done in portions, and what is left of a script's is kept", async (laboratory, link) => {
     await laboratory.say("put 0000 u 0000", "press start");
     assert.equal(await laboratory.say("run 3000000"), "ran 3000000 limit\n");
-    assert.deepEqual([laboratory.notice, laboratory.history.behind, laboratory.talk.at(-1)], [null, 3_000_000, { line: "run 3000000", reply: "ran 3000000 limit\n" }]);
+    assert.deepEqual(
+        [laboratory.notice, laboratory.history.behind, laboratory.talk.at(-1)],
+        [null, 3_000_000, { line: "run 3000000", reply: "ran 3000000 limit\n" }]
+    );
     await laboratory.openScript("prints", "put 0000 p =h\nput 0001 u 0000\npress start\nrun 3000000\nput 0000 z 0000\n");
     await laboratory.scriptLines(Infinity);
     const { notice, printed: { count }, script } = laboratory;
@@ -434,8 +461,11 @@ live("in an open source there is no looking, and its lines are shown", async (la
 
 live("while a source is open nothing but a typed line goes into it", async (laboratory) => {
     await laboratory.say("put 0050 = 3", "source", "ten z");
-    const actions = [["step"], ["run"], ["back", 1], ["forward", 1], ["command", "press start"], ["assemble", " z"], ["load", " z"], ["why", "0050"], ["showAt", "0050"],
-        ["transcript"], ["scriptLines", 1]];
+    const actions = [
+        ["step"], ["run"], ["back", 1], ["forward", 1], ["command", "press start"], ["assemble", " z"], ["load", " z"], ["why", "0050"],
+        ["showAt", "0050"],
+        ["transcript"], ["scriptLines", 1]
+    ];
     for (const [name, ...values] of actions) {
         assert.equal(await laboratory[name](...values), undefined, name);
         assert.equal(laboratory.notice?.kind, "sourceIsOpen", name);
@@ -476,7 +506,10 @@ live("what a line of the reader tells in columns, the page shows as well", async
     assert.deepEqual([laboratory.accounts.length, bring.order, bring.after, hold.stored.after.number], [2, "b 0003", "00000008", 4]);
     assert.deepEqual([laboratory.panel.clock, laboratory.history.behind], [165n, 2]);
     await laboratory.say("profile 3");
-    assert.deepEqual([laboratory.profile.orders, laboratory.profile.times, laboratory.profile.places.length], [3, Number(laboratory.panel.clock) - 165, 3]);
+    assert.deepEqual(
+        [laboratory.profile.orders, laboratory.profile.times, laboratory.profile.places.length],
+        [3, Number(laboratory.panel.clock) - 165, 3]
+    );
     await laboratory.say("profile 5000");
     assert.deepEqual([laboratory.profile, laboratory.history.behind], [null, 5005]);
     await laboratory.step();
@@ -484,7 +517,10 @@ live("what a line of the reader tells in columns, the page shows as well", async
 });
 
 live("the last orders are the last ones, or none", async (laboratory) => {
-    const untold = [() => laboratory.run(5), () => laboratory.say("orders 2"), () => laboratory.say("run 2"), () => laboratory.say("profile 2"), () => laboratory.say("go 0000")];
+    const untold = [
+        () => laboratory.run(5), () => laboratory.say("orders 2"), () => laboratory.say("run 2"), () => laboratory.say("profile 2"),
+        () => laboratory.say("go 0000"),
+    ];
     for (const action of untold) {
         await laboratory.openScript("self-modifying", exampleNamed("self-modifying"));
         await laboratory.step(3);
@@ -533,7 +569,9 @@ live("what a word would have cost is asked of the last orders, and the machine a
     const accounts = laboratory.accounts.length;
     await laboratory.askCosts("0003");
     const { costs } = laboratory;
-    assert.deepEqual([costs.orders, costs.times, costs.address, costs.kind, costs.refusal, costs.sectors.length], [orders, sum, "0003", "free", null, 64]);
+    assert.deepEqual(
+        [costs.orders, costs.times, costs.address, costs.kind, costs.refusal, costs.sectors.length], [orders, sum, "0003", "free", null, 64]
+    );
     assert.equal(costs.sectors.find(({ isOwn }) => isOwn).times - costs.sectors.find(({ isBest }) => isBest).times, costs.saved);
     assert.deepEqual(await standOf(laboratory, link, orders), before);
     assert.equal(laboratory.accounts.length, accounts);
@@ -547,7 +585,10 @@ live("what a word would have cost is asked of the last orders, and the machine a
 live("of a long run the orders are asked for that are kept, and of none that is said", async (laboratory) => {
     await laboratory.say("put 0000 b 0000", "put 0001 a 0003", "put 0002 u 0000", "press start");
     await laboratory.askCosts("0003");
-    assert.deepEqual([laboratory.costs.kind, laboratory.costs.address, laboratory.costs.reason], ["none", null, "no order waited for it or stood there, so its sector makes no difference"]);
+    assert.deepEqual(
+        [laboratory.costs.kind, laboratory.costs.address, laboratory.costs.reason],
+        ["none", null, "no order waited for it or stood there, so its sector makes no difference"]
+    );
     await laboratory.run(6000);
     const { panel } = laboratory;
     for (const [address, kind] of [["0003", "free"], ["0005", "unnamed"], ["0002", "performed"], ["0000", "performed"]]) {
@@ -589,7 +630,10 @@ live("the last orders of a run are told after it, where that is wanted, and noth
     await laboratory.run();
     await laboratory.run();
     const { panel: { counter, clock }, accounts, rules } = laboratory;
-    assert.deepEqual([counter, accounts.at(-1).at, accounts.length, rules.map((rule) => rule.slice(0, 10))], ["0012", "0011", 10, ["break 0009", "break 0012"]]);
+    assert.deepEqual(
+        [counter, accounts.at(-1).at, accounts.length, rules.map((rule) => rule.slice(0, 10))],
+        ["0012", "0011", 10, ["break 0009", "break 0012"]]
+    );
     assert.equal(accounts.at(-1).clock + BigInt(accounts.at(-1).sum), clock);
     await laboratory.say("drop 0", "drop 0");
     await laboratory.run();
@@ -670,7 +714,9 @@ live("what is pressed while a run goes on is done between two of its portions, a
     let portions = 0;
     link.ask = (line) => {
         portions += line.startsWith("run ") ? 1 : 0;
-        if (line.startsWith("run ") && portions in presses) laboratory.command(presses[portions]).then(() => done.push(presses[portions], laboratory.panel.down.bp32));
+        if (line.startsWith("run ") && portions in presses) {
+            laboratory.command(presses[portions]).then(() => done.push(presses[portions], laboratory.panel.down.bp32));
+        }
         return ask(line);
     };
     const { orders, end } = await laboratory.run(100_000_000);
@@ -688,7 +734,10 @@ live("what is pressed while a run goes on is told at once as awaited, until it i
         portions += line.startsWith("run ") ? 1 : 0;
         if (line.startsWith("run ") && portions === 2) {
             laboratory.addEventListener("change", note);
-            laboratory.command("press bp32 down").then(() => laboratory.removeEventListener("change", note)).then(note).then(() => laboratory.command("press manual"));
+            laboratory.command("press bp32 down")
+                .then(() => laboratory.removeEventListener("change", note))
+                .then(note)
+                .then(() => laboratory.command("press manual"));
         }
         return ask(line);
     };

@@ -6,7 +6,10 @@ import { Drive, PACES, WORD_TIME, speedInShow } from "../drive.mjs";
 import { Player } from "../player.mjs";
 import { LANGUAGES } from "../words.mjs";
 
-const account = { clock: 0n, order: "b 0020", at: "0004", find: 24, take: 1, seek: 15, act: 1, sum: 41, before: "00000000", after: "00000000", stored: null, printed: null };
+const account = {
+    clock: 0n, order: "b 0020", at: "0004", find: 24, take: 1, seek: 15, act: 1, sum: 41, before: "00000000", after: "00000000",
+    stored: null, printed: null,
+};
 
 /** A drive, and what was done: the orders performed. `orders` is how many the machine has before it halts. */
 function madeUp(orders = Infinity) {
@@ -96,8 +99,12 @@ test("in a tale an act of many turns passes as one turn", async () => {
 test("in a show the first orders and those that rewrite another one are slow, and what prints is hurried while it types", () => {
     const word = (digits) => ({ digits, order: null });
     const rewriting = { ...account, order: "y 0009", stored: { address: "0009", before: word("000q0000"), after: word("000q0100") } };
-    assert.deepEqual([[account, 3], [account, 4], [rewriting, 40], [{ ...account, printed: { code: 46 } }, 40]].map(([it, behind]) => speedInShow(it, behind)),
-        [{ speed: 32, hurry: 1 }, { speed: 96, hurry: 1 }, { speed: 32, hurry: 1 }, { speed: 48, hurry: 128 / 48 }]);
+    assert.deepEqual(
+        [[account, 3], [account, 4], [rewriting, 40], [{ ...account, printed: { code: 46 } }, 40]].map(
+            ([it, behind]) => speedInShow(it, behind)
+        ),
+        [{ speed: 32, hurry: 1 }, { speed: 96, hurry: 1 }, { speed: 32, hurry: 1 }, { speed: 48, hurry: 128 / 48 }]
+    );
 });
 
 test("the length of a word time is one figure: that of the machine's own pace, and what each language says of it", () => {
@@ -108,7 +115,15 @@ test("the length of a word time is one figure: that of the machine's own pace, a
     }
     // what documents say of it, with a point or a comma; .ci/programs reads the figure itself
     const read = (path) => readFileSync(new URL(`../../${path}`, import.meta.url), "utf8");
-    for (const [path, said] of [["docs/EXHIBITS.md", `${WORD_TIME} milliseconds`], ["docs/de/EXHIBITS.md", `${WORD_TIME.toLocaleString("de")} Millisekunden`], ["docs/PROGRAMS.md", `a word time lasts ${String(WORD_TIME).slice(1)} milliseconds`]]) assert.ok(read(path).includes(said), `${path}: ${said}`);
-    const others = readdirSync(new URL("../../docs", import.meta.url), { recursive: true }).filter((path) => path.endsWith(".md")).map((path) => `docs/${path}`);
+    for (const [path, said] of [
+        ["docs/EXHIBITS.md", `${WORD_TIME} milliseconds`],
+        ["docs/de/EXHIBITS.md", `${WORD_TIME.toLocaleString("de")} Millisekunden`],
+        ["docs/PROGRAMS.md", `a word time lasts ${String(WORD_TIME).slice(1)} milliseconds`],
+    ]) {
+        assert.ok(read(path).includes(said), `${path}: ${said}`);
+    }
+    const others = readdirSync(new URL("../../docs", import.meta.url), { recursive: true })
+        .filter((path) => path.endsWith(".md"))
+        .map((path) => `docs/${path}`);
     for (const path of others) assert.doesNotMatch(read(path), /(?:turns a minute|Umdrehungen (?:in der|je) Minute)/, path);
 });

@@ -22,7 +22,10 @@ const remarks = remarksBelow(shelf);
 const inLanguage = (code, name, script) => withRemarks(script, remarks[code][name]);
 
 /** The sources that are given to pupils, by their tasks. */
-const given = readdirSync(join(top, "teaching/tasks")).map((name) => [name, join(top, "teaching/tasks", name, "given.source")]).filter(([, file]) => existsSync(file)).map(([name, file]) => [name, readFileSync(file, "utf8")]);
+const given = readdirSync(join(top, "teaching/tasks"))
+    .map((name) => [name, join(top, "teaching/tasks", name, "given.source")])
+    .filter(([, file]) => existsSync(file))
+    .map(([name, file]) => [name, readFileSync(file, "utf8")]);
 
 /** The sources beside the examples that are scripts. */
 const beside = sourcesOf(shelf);
@@ -34,7 +37,10 @@ for (const code of others) {
     const table = tableOf(shelf, code);
 
     test(`each comment of the examples and of the sources for pupils is there in ${code}, and none that is nowhere`, () => {
-        const written = [...scripts.flatMap(([name, script]) => remarksOf(script).map((remark) => [name, remark])), ...[...given, ...beside].flatMap(([name, source]) => remarksOfSource(source).map((remark) => [name, remark]))];
+        const written = [
+            ...scripts.flatMap(([name, script]) => remarksOf(script).map((remark) => [name, remark])),
+            ...[...given, ...beside].flatMap(([name, source]) => remarksOfSource(source).map((remark) => [name, remark])),
+        ];
         assert.deepEqual(written.filter(([, remark]) => !table.has(remark)), []);
         const known = new Set(written.map(([, remark]) => remark));
         assert.deepEqual([...table.keys()].filter((remark) => !known.has(remark)), []);
@@ -42,7 +48,9 @@ for (const code of others) {
 
     test(`without comments each example is the same in ${code}, line by line`, () => {
         for (const [name, script] of scripts) assert.deepEqual(bare(inLanguage(code, name, script)), bare(script), name);
-        for (const [name, source] of [...given, ...beside]) assert.deepEqual(sourceIn(source, table).replace(/;.*$/gm, ""), source.replace(/;.*$/gm, ""), name);
+        for (const [name, source] of [...given, ...beside]) {
+            assert.deepEqual(sourceIn(source, table).replace(/;.*$/gm, ""), source.replace(/;.*$/gm, ""), name);
+        }
     });
 
     test(`each example has a title of its own in ${code}, and says the same words of places`, () => {
@@ -68,7 +76,10 @@ for (const code of others) {
 test("comments are found where they are, and a sign after = is none", () => {
     const script = "; one\n;   two  \nput 0000 z ; no comment\n;\nsource\nstart p =;  ; three\n; four\n p =;\n.\n; five\n";
     assert.deepEqual(remarksOf(script), ["one", "two", "three", "four", "five"]);
-    assert.equal(withRemarks(script, ["1", "2", null, "4", "5"]), "; 1\n;   2\nput 0000 z ; no comment\n;\nsource\nstart p =;  ; three\n; 4\n p =;\n.\n; 5\n");
+    assert.equal(
+        withRemarks(script, ["1", "2", null, "4", "5"]),
+        "; 1\n;   2\nput 0000 z ; no comment\n;\nsource\nstart p =;  ; three\n; 4\n p =;\n.\n; 5\n"
+    );
     assert.deepEqual([...tableIn("# a language\n\none\n    eins\nwithout\ntwo\n    zwei\n")], [["one", "eins"], ["two", "zwei"]]);
 });
 
@@ -79,7 +90,9 @@ test("a script that is open has its comments in another language, and what is le
     await laboratory.openScript(name, script);
     laboratory.script.lines[laboratory.script.at] = "run 3";
     laboratory.retold(inLanguage("de", name, script));
-    assert.equal(headOf(laboratory.script.lines.join("\n")).title, "Ein Programm, das seine eigenen Befehle ändert: die Summe einer Tabelle");
+    assert.equal(
+        headOf(laboratory.script.lines.join("\n")).title, "Ein Programm, das seine eigenen Befehle ändert: die Summe einer Tabelle"
+    );
     assert.deepEqual([laboratory.script.lines[laboratory.script.at], laboratory.comments.get("0003").comment], ["run 3", "anhalten"]);
 });
 
@@ -87,10 +100,16 @@ test("a script that is open has its comments in another language, and what is le
 const repliesTo = (lines) => textOf(answerScript(readFileSync(module), bytesOf(`${lines.join("\n")}\n`)).replies);
 
 /** The words that are not zero on the drum after lines, by their addresses. */
-const drumAfter = (lines) => new Map([...repliesTo([...lines, "dump"]).matchAll(/^(\d{4}) ([0-9fgjkqw]{8})$/gm)].map(([, address, word]) => [address, word]));
+const drumAfter = (lines) => (
+    new Map([...repliesTo([...lines, "dump"]).matchAll(/^(\d{4}) ([0-9fgjkqw]{8})$/gm)].map(([, address, word]) => [address, word]))
+);
 
 /** The words of a source by their addresses, those that are zero as well, as a listing has them. */
-const wordsOf = (source) => new Map([...textOf(answerSource(readFileSync(module), "asm", bytesOf(source)).replies).matchAll(/^(\d{4}) ([0-9fgjkqw]{8})/gm)].map(([, address, word]) => [address, word]));
+const wordsOf = (source) => new Map(
+    [...textOf(answerSource(readFileSync(module), "asm", bytesOf(source)).replies).matchAll(/^(\d{4}) ([0-9fgjkqw]{8})/gm)].map(
+        ([, address, word]) => [address, word]
+    )
+);
 
 const ZERO = "00000000";
 
@@ -100,7 +119,9 @@ test("each example that has no source in its script has one beside it, in each l
     assert.ok(without.includes("self-modifying") && without.includes("finding-mistakes/wrong-address"));
     for (const [code, sources] of Object.entries(sourcesBelow(shelf))) {
         assert.deepEqual(Object.keys(sources), without, code);
-        for (const [name, source] of Object.entries(sources)) assert.deepEqual([...source].filter((sign) => sign.charCodeAt(0) > 126), [], `${name} in ${code}`);
+        for (const [name, source] of Object.entries(sources)) {
+            assert.deepEqual([...source].filter((sign) => sign.charCodeAt(0) > 126), [], `${name} in ${code}`);
+        }
     }
 });
 
@@ -112,7 +133,9 @@ test("the source beside an example has the words that its script puts in, or lea
             const words = wordsOf(source);
             const drum = drumAfter(puts.length === 0 ? lines : puts);
             assert.ok(words.size > 1, name);
-            for (const [address, word] of words) assert.ok(puts.length === 0 && word === ZERO || (drum.get(address) ?? ZERO) === word, `${name}: ${address} ${word}`);
+            for (const [address, word] of words) {
+                assert.ok(puts.length === 0 && word === ZERO || (drum.get(address) ?? ZERO) === word, `${name}: ${address} ${word}`);
+            }
             if (puts.length > 0) for (const [address, word] of drum) assert.equal(words.get(address), word, `${name}: ${address}`);
         }
     }
@@ -120,6 +143,8 @@ test("the source beside an example has the words that its script puts in, or lea
 
 test("a comment beside an order of these sources has at most 44 signs", () => {
     for (const sources of Object.values(sourcesBelow(shelf))) {
-        for (const [name, source] of Object.entries(sources)) assert.deepEqual(linesIn(source).filter((line) => /\S.*; /.test(line) && line.length - line.indexOf("; ") > 46), [], name);
+        for (const [name, source] of Object.entries(sources)) {
+            assert.deepEqual(linesIn(source).filter((line) => /\S.*; /.test(line) && line.length - line.indexOf("; ") > 46), [], name);
+        }
     }
 });

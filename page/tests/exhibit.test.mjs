@@ -1,5 +1,7 @@
-// Visitors at the kiosk, without a browser: they press at random, walk away and come back, and the paper is always a beginning of what its program prints. No time passes but that of the test's own clock.
-// TOUCHES says how many touches each example gets; the one that the kiosk shows and the game get 1,000 at least. PART says which examples are visited: 2/3 is the second of three parts of them.
+// Visitors at the kiosk, without a browser: they press at random, walk away and come back, and the paper is always a beginning of what its
+// program prints. No time passes but that of the test's own clock.
+// TOUCHES says how many touches each example gets; the one that the kiosk shows and the game get 1,000 at least. PART says which examples
+// are visited: 2/3 is the second of three parts of them.
 import assert from "node:assert/strict";
 import { test } from "node:test";
 import { KIOSK } from "../exhibit.mjs";
@@ -12,12 +14,17 @@ const [part, parts] = (process.env.PART ?? "1/1").split("/").map(Number);
 const PRESSED = [1, 1, 2, 2, 2, 2, 2, 2, 2, 3, 3, 4];
 const STATES = ["attract", "story", "show", "end", "matches"];
 
-/** Visitors touch so often, buttons and what lies beside them; each time that the machine has changed the paper is looked at: it is the one of the program that is open. Now and then nobody is there, and it begins anew. */
+/**
+ * Visitors touch so often, buttons and what lies beside them; each time that the machine has changed the paper is looked at: it is the one
+ * of the program that is open. Now and then nobody is there, and it begins anew.
+ */
 async function visited(name, touches) {
     const [{ laboratory, exhibit, drive }, among] = [await exhibited(name), chance(touches)];
     const checks = new Map(await Promise.all([exhibit.name, KIOSK.game].map(async (it) => [it, await checkOf(it)])));
     const [wrong, seen] = [[], new Set()];
-    laboratory.addEventListener("change", () => { if (!checks.get(laboratory.script.name)(laboratory.printed.text)) wrong.push(laboratory.printed.text); });
+    laboratory.addEventListener("change", () => {
+        if (!checks.get(laboratory.script.name)(laboratory.printed.text)) wrong.push(laboratory.printed.text);
+    });
     await exhibit.attract();
     for (let touch = 0; touch < touches && wrong.length === 0; touch += 1) {
         const what = among(40);
@@ -98,7 +105,10 @@ test("the game is one press away, from the beginning and from the end; the addre
     await all.exhibit.attract();
     await all.exhibit.press(3);
     await restsIn(all, "matches");
-    assert.deepEqual([all.laboratory.way.kind, all.exhibit.labels, all.laboratory.script.name], ["keys", ["kioskTake1", "kioskTake2", "kioskTake3", "kioskToStart"], KIOSK.game]);
+    assert.deepEqual(
+        [all.laboratory.way.kind, all.exhibit.labels, all.laboratory.script.name],
+        ["keys", ["kioskTake1", "kioskTake2", "kioskTake3", "kioskToStart"], KIOSK.game]
+    );
     await all.exhibit.press(4);
     assert.deepEqual([all.exhibit.state, all.laboratory.script.name], ["attract", "message"]);
     all.exhibit.end();
@@ -110,7 +120,13 @@ test("the game is one press away, from the beginning and from the end; the addre
     assert.deepEqual(await labels("message", { offers: ["nonesuch"] }), ["kioskBegin", null, "kioskMatches", "kioskLanguage"]);
     assert.deepEqual(await labels(KIOSK.game, {}), [null, null, "kioskMatches", "kioskLanguage"]);
     const pressed = [];
-    const views = { faster: { labels: ["one", "two", "three", "four"], open: () => pressed.push("open"), press: (number) => { pressed.push(number); return number < 4; } } };
+    const views = {
+        faster: {
+            labels: ["one", "two", "three", "four"],
+            open: () => pressed.push("open"),
+            press: (number) => { pressed.push(number); return number < 4; },
+        },
+    };
     const { exhibit } = await exhibited("message", true, { views });
     assert.equal(exhibit.labels[1], "kioskFaster");
     for (const number of [2, 1, 3, 4]) await exhibit.press(number);
@@ -148,7 +164,10 @@ test("where nothing may move captions follow one another, the machine stands, an
     exhibit.end();
 });
 
-/** The longest time without a print of an exhibit that plays by itself, in seconds, within a number of minutes, and whether its paper was ever that of another program, or of what was played before, while it told that it is open. */
+/**
+ * The longest time without a print of an exhibit that plays by itself, in seconds, within a number of minutes, and whether its paper was
+ * ever that of another program, or of what was played before, while it told that it is open.
+ */
 async function leftAlone(name, minutes) {
     const { laboratory, exhibit, time } = await exhibited(name);
     const isRight = await checkOf(name);

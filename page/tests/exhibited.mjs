@@ -14,7 +14,11 @@ const module = join(top, "libraries/javascript/lgp_c_region.wasm");
 /** Whether there is no module. */
 export const skip = !existsSync(module);
 /** The names of the examples. */
-export const examples = readdirSync(join(top, "examples"), { recursive: true }).map(String).filter((name) => name.endsWith(".txt")).map((name) => name.slice(0, -".txt".length)).sort();
+export const examples = readdirSync(join(top, "examples"), { recursive: true })
+    .map(String)
+    .filter((name) => name.endsWith(".txt"))
+    .map((name) => name.slice(0, -".txt".length))
+    .sort();
 const scriptOf = (name) => (examples.includes(name) ? readFileSync(join(top, `examples/${name}.txt`), "utf8") : undefined);
 
 /** A moment, in which others go on. */
@@ -63,7 +67,9 @@ function isPaperOfGame(text) {
     for (const [place, line] of lines.entries()) {
         const who = isYours ? "you" : "i";
         const takes = [1, 2, 3].filter((count) => count <= left);
-        const wanted = left === 0 ? [`${isYours ? "i" : "you"} win`] : [...takes.map((count) => `${left}; ${who} take ${count}`), ...(isYours ? [`${left}; you take no`] : [])];
+        const wanted = left === 0
+            ? [`${isYours ? "i" : "you"} win`]
+            : [...takes.map((count) => `${left}; ${who} take ${count}`), ...(isYours ? [`${left}; you take no`] : [])];
         if (place === lines.length - 1) return line === "" || wanted.some((it) => it.startsWith(line));
         if (!wanted.includes(line)) return false;
         const taken = Number(/take (\d)$/.exec(line)?.[1] ?? 0);

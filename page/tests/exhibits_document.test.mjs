@@ -1,4 +1,5 @@
-// docs/EXHIBITS.md: its smallest exhibit is right, its commands write what it shows, its sentence is that of the check, and it names each field that the reader knows; in German likewise.
+// docs/EXHIBITS.md: its smallest exhibit is right, its commands write what it shows, its sentence is that of the check, and it names each
+// field that the reader knows; in German likewise.
 import assert from "node:assert/strict";
 import { spawnSync } from "node:child_process";
 import { existsSync, readFileSync, readdirSync } from "node:fs";
@@ -14,7 +15,9 @@ const isExample = (name) => existsSync(join(top, `examples/${name}.txt`));
 const DOCUMENTS = ["docs/EXHIBITS.md", "docs/de/EXHIBITS.md"].filter((path) => existsSync(join(top, path)));
 
 /** The indented blocks of a document. */
-const blocksOf = (document) => document.split(/\n(?! {4}|\n)/).flatMap((piece) => (/(?:^|\n) {4}/.test(piece) ? [piece.split("\n").filter((line) => /^ {4}/.test(line)).map((line) => line.slice(4)).join("\n")] : []));
+const blocksOf = (document) => document.split(/\n(?! {4}|\n)/).flatMap((piece) => (
+    /(?:^|\n) {4}/.test(piece) ? [piece.split("\n").filter((line) => /^ {4}/.test(line)).map((line) => line.slice(4)).join("\n")] : []
+));
 
 /** All names of fields in an exhibit, at any depth but for those of scenes and texts. */
 function fieldsIn(value) {
@@ -43,7 +46,11 @@ for (const path of DOCUMENTS) {
     });
 
     test(`${path}: each field and value that the exhibits of the page have is named`, () => {
-        const names = new Set(["weather", "loop", "twenty-one", "formula"].map((name) => JSON.parse(read(`page/exhibits/${name}.json`))).flatMap(({ scenes }) => ["title", "scenes", ...Object.values(scenes).flatMap(fieldsIn)]));
+        const names = new Set(
+            ["weather", "loop", "twenty-one", "formula"].map((name) => JSON.parse(read(`page/exhibits/${name}.json`))).flatMap(
+                ({ scenes }) => ["title", "scenes", ...Object.values(scenes).flatMap(fieldsIn)]
+            )
+        );
         assert.deepEqual([...names].filter((name) => !["en", "de"].includes(name) && !new RegExp(`["\`]${name}["\`]`).test(document)), []);
     });
 }
@@ -51,12 +58,20 @@ for (const path of DOCUMENTS) {
 test("each exhibit that was written by following the page is named there, and right", { skip }, () => {
     const files = readdirSync(join(top, "docs/exhibits"));
     for (const path of DOCUMENTS) assert.deepEqual(files.filter((file) => !read(path).includes(`exhibits/${file})`)), [], path);
-    const ran = spawnSync("node", ["page/check_exhibit.mjs", ...files.map((file) => `docs/exhibits/${file}`)], { cwd: top, encoding: "utf8" });
-    assert.deepEqual([ran.status, ran.stderr, ran.stdout.replaceAll(/\d+ scenes/g, "N scenes").split("\n").slice(0, -1)], [0, "", files.map((file) => `docs/exhibits/${file}: right, N scenes played`)]);
+    const ran = spawnSync(
+        "node", ["page/check_exhibit.mjs", ...files.map((file) => `docs/exhibits/${file}`)], { cwd: top, encoding: "utf8" }
+    );
+    assert.deepEqual(
+        [ran.status, ran.stderr, ran.stdout.replaceAll(/\d+ scenes/g, "N scenes").split("\n").slice(0, -1)],
+        [0, "", files.map((file) => `docs/exhibits/${file}: right, N scenes played`)]
+    );
 });
 
 test("the check refuses what is wrong, a file that is not there, and wrong words", () => {
-    const run = (...words) => { const { status, stdout, stderr } = spawnSync("node", ["page/check_exhibit.mjs", ...words], { cwd: top, encoding: "utf8" }); return [status, stdout, stderr]; };
+    const run = (...words) => {
+        const { status, stdout, stderr } = spawnSync("node", ["page/check_exhibit.mjs", ...words], { cwd: top, encoding: "utf8" });
+        return [status, stdout, stderr];
+    };
     assert.deepEqual(run("nowhere.json"), [1, "", "nowhere.json: There is no such file.\n"]);
     assert.match(run("docs/EXHIBITS.md").join(), /^1,,docs\/EXHIBITS\.md: The file is not JSON/);
     assert.deepEqual(run(), [64, "", "node page/check_exhibit.mjs [--address] FILE..\n"]);
@@ -64,7 +79,9 @@ test("the check refuses what is wrong, a file that is not there, and wrong words
 });
 
 test("the address that the check gives has the exhibit in itself", { skip }, () => {
-    const { stdout } = spawnSync("node", ["page/check_exhibit.mjs", "--address", "docs/exhibits/greeting.json"], { cwd: top, encoding: "utf8" });
+    const { stdout } = spawnSync(
+        "node", ["page/check_exhibit.mjs", "--address", "docs/exhibits/greeting.json"], { cwd: top, encoding: "utf8" }
+    );
     const address = stdout.trimEnd().split("\n").at(-1);
     assert.deepEqual(JSON.parse(decodeURIComponent(address.slice("#exhibit=".length))), JSON.parse(read("docs/exhibits/greeting.json")));
 });

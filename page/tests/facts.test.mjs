@@ -1,4 +1,5 @@
-// What the page and the module know of the machine, to draw and to read it, is what the monitor answers: for all sectors, codes and places of the loader.
+// What the page and the module know of the machine, to draw and to read it, is what the monitor answers: for all sectors, codes and places
+// of the loader.
 import assert from "node:assert/strict";
 import { readFileSync } from "node:fs";
 import { test } from "node:test";
@@ -18,14 +19,20 @@ const SECTORS = Array.from({ length: 64 }, (unused, sector) => sector);
 test("how long each sector is away, from each position of the drum, is what the monitor says that an order there would wait", () => {
     const ask = laboratory();
     for (const clock of SECTORS) {
-        for (const sector of SECTORS) assert.equal(ask(`json cost ${addressOf(sector)}`)[0].get("find"), placesTo(sector, BigInt(clock)), `sector ${sector} at ${clock}`);
+        for (const sector of SECTORS) {
+            assert.equal(
+                ask(`json cost ${addressOf(sector)}`)[0].get("find"), placesTo(sector, BigInt(clock)), `sector ${sector} at ${clock}`
+            );
+        }
         ask("turn 1", "json panel-data");
     }
 });
 
 test("the sectors pass the head in the order in which they are drawn", () => {
     assert.deepEqual(SECTORS.map((position) => positionOf(sectorAt(position))), SECTORS);
-    assert.deepEqual([...SECTORS].sort((one, other) => placesTo(one, 63n) - placesTo(other, 63n)), SECTORS.map((position) => sectorAt(position)));
+    assert.deepEqual(
+        [...SECTORS].sort((one, other) => placesTo(one, 63n) - placesTo(other, 63n)), SECTORS.map((position) => sectorAt(position))
+    );
 });
 
 test("each code has the sign that the monitor gives it on a tape and when it is printed, or none", () => {
@@ -46,8 +53,12 @@ test("no word is put where the loader lies, and everywhere else one may be", () 
     const ask = laboratory();
     const all = new Set(Array.from({ length: 4096 }, (unused, number) => addressOf(number)));
     for (const track of SECTORS) {
-        const words = ask("source", ` org ${addressOf(64 * track)}`, ...SECTORS.map(() => " z"), " end", ".", "json source-data").slice(1, 65);
-        for (const [sector, word] of words.entries()) assert.equal(isOfLoader(64 * track + sector), word.get("fault") !== undefined, addressOf(64 * track + sector));
+        const words = ask(
+            "source", ` org ${addressOf(64 * track)}`, ...SECTORS.map(() => " z"), " end", ".", "json source-data"
+        ).slice(1, 65);
+        for (const [sector, word] of words.entries()) {
+            assert.equal(isOfLoader(64 * track + sector), word.get("fault") !== undefined, addressOf(64 * track + sector));
+        }
     }
     for (let number = numberOf("6263"); number < 4096; number += 1) {
         const place = addressOf(number);
@@ -79,10 +90,18 @@ test("a word is an order, or none, as the monitor says: for each address, each l
     const words = Array.from({ length: 4096 }, (unused, number) => digitsOf((number % 16 << 16) | (number >> 6 << 8) | (number % 64 << 2)));
     for (let track = 0; track < 64; track += 1) {
         const place = addressOf(64 * track);
-        ask(...words.slice(64 * track, 64 * track + 64).map((digits, sector) => `put ${addressOf(64 * track + sector)} ${digits}`), "json panel-data");
-        for (const shown of ask(`json show-data ${place} 64`)) assert.equal(orderIn(shown.get("digits")), shown.get("order") ?? null, shown.get("digits"));
+        ask(
+            ...words.slice(64 * track, 64 * track + 64).map((digits, sector) => `put ${addressOf(64 * track + sector)} ${digits}`),
+            "json panel-data"
+        );
+        for (const shown of ask(`json show-data ${place} 64`)) {
+            assert.equal(orderIn(shown.get("digits")), shown.get("order") ?? null, shown.get("digits"));
+        }
     }
-    const others = [...LETTERS].flatMap((unused, number) => [digitsOf((number << 16) | (1 << 31)), digitsOf((number << 16) | 2), digitsOf((number << 16) | (1 << 14)), digitsOf((number << 16) | (1 << 20))]);
+    const others = [...LETTERS].flatMap((unused, number) => [
+        digitsOf((number << 16) | (1 << 31)), digitsOf((number << 16) | 2), digitsOf((number << 16) | (1 << 14)),
+        digitsOf((number << 16) | (1 << 20)),
+    ]);
     for (const digits of others) {
         const [shown] = ask(`put 0000 ${digits}`, "json show-data 0000 1");
         assert.deepEqual([orderIn(digits), isNegative(digits)], [shown.get("order") ?? null, shown.get("number") < 0], digits);
@@ -95,7 +114,9 @@ test("the bits of a word that are drawn as those of an order, a track and a sect
     const valueIn = (digits, [first, past]) => Number.parseInt(bitsOf(digits).slice(first, past).join(""), 2);
     for (const [number, letter] of [..."zbyridnmpeuthcas"].entries()) {
         for (const place of ["0000", "0163", "3201", "6363"]) {
-            const [{ digits }] = ask(`put 0100 ${letter} ${place}`, "json show-data 0100 1").map((shown) => ({ digits: shown.get("digits") }));
+            const [{ digits }] = ask(`put 0100 ${letter} ${place}`, "json show-data 0100 1").map(
+                (shown) => ({ digits: shown.get("digits") })
+            );
             const fields = [FIELDS.order, FIELDS.track, FIELDS.sector].map((field) => valueIn(digits, field));
             assert.deepEqual(fields, [number, Number(place.slice(0, 2)), Number(place.slice(2))], `${letter} ${place}`);
         }

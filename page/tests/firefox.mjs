@@ -19,8 +19,16 @@ export class Firefox extends Driver {
     /** Starts Firefox with an empty page of this size, and settings as a profile has them. */
     static async start(width = 1500, height = 1250, settings = {}) {
         const browser = new Firefox();
-        const prefs = { "intl.accept_languages": "en", "browser.shell.checkDefaultBrowser": false, "datareporting.policy.dataSubmissionEnabled": false, ...settings };
-        writeFileSync(join(browser.#folder, "user.js"), Object.entries(prefs).map(([name, value]) => `user_pref(${JSON.stringify(name)}, ${JSON.stringify(value)});\n`).join(""));
+        const prefs = {
+            "intl.accept_languages": "en",
+            "browser.shell.checkDefaultBrowser": false,
+            "datareporting.policy.dataSubmissionEnabled": false,
+            ...settings,
+        };
+        writeFileSync(
+            join(browser.#folder, "user.js"),
+            Object.entries(prefs).map(([name, value]) => `user_pref(${JSON.stringify(name)}, ${JSON.stringify(value)});\n`).join("")
+        );
         browser.#send = await openSocket(`${await browser.#launch()}/session`, (text) => browser.#settle(JSON.parse(text)));
         await browser.#ask("session.new", { capabilities: {} });
         await browser.#ask("session.subscribe", { events: ["log.entryAdded"] });
@@ -32,7 +40,11 @@ export class Firefox extends Driver {
 
     #launch() {
         const words = ["--headless", "--no-remote", "--profile", this.#folder, "--remote-debugging-port", "0"];
-        this.#process = spawn(process.env.FIREFOX ?? "firefox-esr", words, { stdio: ["ignore", "ignore", "pipe"], env: { ...process.env, MOZ_HEADLESS_WIDTH: "1600", MOZ_HEADLESS_HEIGHT: "1400" } });
+        this.#process = spawn(
+            process.env.FIREFOX ?? "firefox-esr",
+            words,
+            { stdio: ["ignore", "ignore", "pipe"], env: { ...process.env, MOZ_HEADLESS_WIDTH: "1600", MOZ_HEADLESS_HEIGHT: "1400" } }
+        );
         return new Promise((resolve, reject) => {
             let text = "";
             this.#process.stderr.setEncoding("utf8").on("data", (piece) => {
@@ -65,7 +77,9 @@ export class Firefox extends Driver {
     }
 
     async run(script) {
-        const { type, result, exceptionDetails } = await this.#ask("script.evaluate", { expression: script, target: { context: this.#context }, awaitPromise: true });
+        const { type, result, exceptionDetails } = await this.#ask("script.evaluate", {
+            expression: script, target: { context: this.#context }, awaitPromise: true,
+        });
         if (type === "exception") throw new Error(exceptionDetails.text);
         return result.value;
     }

@@ -16,7 +16,9 @@ test("each key strikes one code, and each code with a sign has one key", () => {
 });
 
 test("the holes of a code are its bits, the lowest first", () => {
-    for (let code = 0; code < 64; code += 1) assert.equal(holesOf(code).reduce((sum, isHole, bit) => sum + (isHole ? 2 ** bit : 0), 0), code);
+    for (let code = 0; code < 64; code += 1) {
+        assert.equal(holesOf(code).reduce((sum, isHole, bit) => sum + (isHole ? 2 ** bit : 0), 0), code);
+    }
 });
 
 test("it reads while codes are to pass, waits where keys are live, and was typed at before the next print", () => {
@@ -29,7 +31,9 @@ test("it reads while codes are to pass, waits where keys are live, and was typed
 });
 
 test("the next column is that after the last sign, in a line that is broken where it is full", () => {
-    assert.deepEqual(["", "good", "good\n", "good\nda", "0123456789", "01234567890"].map((text) => columnOf(text, 10)), [0, 4, 0, 2, 10, 1]);
+    assert.deepEqual(
+        ["", "good", "good\n", "good\nda", "0123456789", "01234567890"].map((text) => columnOf(text, 10)), [0, 4, 0, 2, 10, 1]
+    );
 });
 
 test("carriage and guide together stand above the next column, and the carriage stays within its room", () => {
@@ -45,8 +49,14 @@ test("carriage and guide together stand above the next column, and the carriage 
 
 test("what was typed stands between what was printed, where it was typed", () => {
     assert.deepEqual(piecesOf("12\n30", []), [{ printed: "12\n30" }]);
-    assert.deepEqual(piecesOf("12\n30", [{ at: 3, keys: "1" }, { at: 3, keys: "8'" }]), [{ printed: "12\n" }, { typed: "18'", isLine: true }, { printed: "30" }]);
-    assert.deepEqual(piecesOf("ab", [{ at: 1, keys: "x" }, { at: 2, keys: "y" }]), [{ printed: "a" }, { typed: "x", isLine: false }, { printed: "b" }, { typed: "y", isLine: false }]);
+    assert.deepEqual(
+        piecesOf("12\n30", [{ at: 3, keys: "1" }, { at: 3, keys: "8'" }]),
+        [{ printed: "12\n" }, { typed: "18'", isLine: true }, { printed: "30" }]
+    );
+    assert.deepEqual(
+        piecesOf("ab", [{ at: 1, keys: "x" }, { at: 2, keys: "y" }]),
+        [{ printed: "a" }, { typed: "x", isLine: false }, { printed: "b" }, { typed: "y", isLine: false }]
+    );
     assert.equal(textOnPaper(piecesOf("12\n30", [{ at: 3, keys: "18'" }])), "12\n18\n30");
     assert.equal(textOnPaper(piecesOf("you take ", [{ at: 9, keys: "2'" }])), "you take 2");
     // what was gone back over is not on the paper any more

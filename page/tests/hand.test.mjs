@@ -31,16 +31,22 @@ test("three pins lie apart wherever their words are carried: one that was set be
         const pins = [0.5, first + 0.5, second + 0.5].map((place, name) => ({ name, angle: place * 5.625 - 180, width, height: 38 }));
         const angles = apart(pins, distanceOf);
         const boxes = pins.map((pin) => boxOf(pin, angles.get(pin.name)));
-        if (boxes.some((box, place) => meet(box, HEAD) || boxes.slice(place + 1).some((other) => meet(box, other)))) wrong.push(`${width}: ${first}, ${second}`);
+        if (boxes.some((box, place) => meet(box, HEAD) || boxes.slice(place + 1).some((other) => meet(box, other)))) {
+            wrong.push(`${width}: ${first}, ${second}`);
+        }
     }
     assert.deepEqual(wrong, []);
-    const near = apart([{ name: "sum", angle: 2.8125, width: 82, height: 38 }, { name: "last", angle: 19.69, width: 82, height: 38 }], distanceOf);
+    const near = apart(
+        [{ name: "sum", angle: 2.8125, width: 82, height: 38 }, { name: "last", angle: 19.69, width: 82, height: 38 }], distanceOf
+    );
     assert.ok(near.get("last") - near.get("sum") > 10, [...near].join(" "));
 });
 
 test("wherever words lie, no pin lies upon another one or upon the head", () => {
     const size = { width: 110, height: 46 };
-    for (let first = 0; first < 64; first += 1) for (const places of [[0], [0, 0], [0, 1, 2], [0, 0, 0], [0, 9, 18, 27, 36], [0, 1, 0, 1, 2], [0, 32]]) {
+    for (let first = 0; first < 64; first += 1) for (const places of [
+        [0], [0, 0], [0, 1, 2], [0, 0, 0], [0, 9, 18, 27, 36], [0, 1, 0, 1, 2], [0, 32],
+    ]) {
         const pins = places.map((place, name) => ({ name, angle: (first + place) * 5.625 - 180, ...size }));
         const angles = apart(pins, distanceOf);
         const boxes = pins.map((pin) => boxOf(pin, angles.get(pin.name)));
@@ -52,7 +58,9 @@ test("wherever words lie, no pin lies upon another one or upon the head", () => 
     assert.deepEqual(apart([{ name: "one", angle: 90, ...size }], distanceOf), new Map([["one", 90]]));
     assert.ok(apart([{ name: "one", angle: -2, ...size }], distanceOf).get("one") < -15);
     // the drum has turned many times, forward or back
-    for (const turns of [-9, -1, 1, 9]) assert.ok(apart([{ name: "one", angle: 360 * turns - 2, ...size }], distanceOf).get("one") < -15, `${turns} turns`);
+    for (const turns of [-9, -1, 1, 9]) {
+        assert.ok(apart([{ name: "one", angle: 360 * turns - 2, ...size }], distanceOf).get("one") < -15, `${turns} turns`);
+    }
 });
 
 test("a round is what lies between the last two times that the loop began", () => {
@@ -79,7 +87,11 @@ test("each program of a game has words that may be moved and have something to g
         assert.ok(told.words.every(({ kind, saved }) => kind === "free" && saved > 0), program.name);
         assert.equal(Number.isInteger(before), true, program.name);
         game.showBest();
-        assert.deepEqual([game.isShown, game.isWon, Number.isInteger(turns()), turns() < before, game.kept.at], [true, true, true, true, program.words.map((word) => [word, Number(word.slice(2))])], program.name);
+        assert.deepEqual(
+            [game.isShown, game.isWon, Number.isInteger(turns()), turns() < before, game.kept.at],
+            [true, true, true, true, program.words.map((word) => [word, Number(word.slice(2))])],
+            program.name
+        );
         game.showBest();
         assert.deepEqual([game.isShown, game.placing.moved, turns()], [false, [], before], program.name);
     }
@@ -101,8 +113,17 @@ test("what was played is kept, and what is kept of another program is left", { s
 test("how a word misses the order that waits longest for it: it has gone by before that was taken, or comes after the next order has", () => {
     const order = (at, name, word, seek, find) => ({ account: { at, order: name, word, seek, find } });
     const missIn = (...round) => PlacingGame.prototype.missOf.call({ round }, "0024");
-    assert.deepEqual(missIn(order("0008", "b 0024", "0024", 64, 9), order("0009", "u 0008", null, 1, 9)), { isEarly: true, at: "0008", letter: "b", places: 1 });
-    assert.deepEqual(missIn(order("0008", "b 0024", "0024", 12, 9), order("0009", "u 0008", null, 1, 60)), { isEarly: false, at: "0008", letter: "b", places: 5 });
-    assert.deepEqual(missIn(order("0008", "b 0024", "0024", 40, 9), order("0009", "s 0024", "0024", 61, 5)), { isEarly: true, at: "0009", letter: "s", places: 4 });
+    assert.deepEqual(
+        missIn(order("0008", "b 0024", "0024", 64, 9), order("0009", "u 0008", null, 1, 9)),
+        { isEarly: true, at: "0008", letter: "b", places: 1 }
+    );
+    assert.deepEqual(
+        missIn(order("0008", "b 0024", "0024", 12, 9), order("0009", "u 0008", null, 1, 60)),
+        { isEarly: false, at: "0008", letter: "b", places: 5 }
+    );
+    assert.deepEqual(
+        missIn(order("0008", "b 0024", "0024", 40, 9), order("0009", "s 0024", "0024", 61, 5)),
+        { isEarly: true, at: "0009", letter: "s", places: 4 }
+    );
     assert.equal(missIn(order("0008", "u 0009", null, 1, 9)), null);
 });

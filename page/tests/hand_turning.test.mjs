@@ -22,7 +22,9 @@ async function handAt(name) {
     await laboratory.open();
     await setUpFor(laboratory, { opens: name }, exampleOf);
     const player = new Player();
-    const turning = new HandTurning(laboratory, player, new Drive(laboratory, player, () => laboratory.run(), { now: () => 0, sleep: async () => {} }));
+    const turning = new HandTurning(
+        laboratory, player, new Drive(laboratory, player, () => laboratory.run(), { now: () => 0, sleep: async () => {} })
+    );
     const ends = [];
     turning.addEventListener("end", ({ way }) => ends.push(way));
     return { laboratory, player, turning, ends };
@@ -47,7 +49,11 @@ test("wherever a hand turns the drum to, the machine has performed the orders th
         turning.take();
         await turning.turn(by);
         clock = wanted;
-        assert.deepEqual([turning.clock, laboratory.history.behind, ends.length > 0], [clock, clocks.filter((begins) => begins < clock).length - (clock === clocks.at(-1) ? 0 : 0), isEnd], `turn ${turn} by ${by}`);
+        assert.deepEqual(
+            [turning.clock, laboratory.history.behind, ends.length > 0],
+            [clock, clocks.filter((begins) => begins < clock).length - (clock === clocks.at(-1) ? 0 : 0), isEnd],
+            `turn ${turn} by ${by}`
+        );
         assert.equal(player.at() === null, clocks.includes(clock), `clock ${clock}`);
         ends.length = 0;
     }

@@ -20,7 +20,12 @@ const over = async (shelf, clocks) => new Keeper(await openStore({ database: non
 /** Clocks whose time passes when that is wanted. */
 function clocks() {
     const timers = [];
-    return { setTimeout: (action, milliseconds) => timers.push({ action, milliseconds }), clearTimeout: () => {}, timers, async pass() { for (const { action } of timers.splice(0)) await action(); } };
+    return {
+        setTimeout: (action, milliseconds) => timers.push({ action, milliseconds }),
+        clearTimeout: () => {},
+        timers,
+        async pass() { for (const { action } of timers.splice(0)) await action(); },
+    };
 }
 
 test("what is kept is written within a second, and is there again", async () => {
@@ -50,7 +55,16 @@ test("what was written in the last moment is kept, though no time was left for t
     await time.pass();
     assert.deepEqual([shelf.getItem("condugwa/last-moment"), (await over(shelf, clocks())).of("language")], [null, "de"]);
     const values = new Map();
-    const slow = new Keeper({ values, unwritten: new Map(), isKept: true, write: () => new Promise(() => {}), writeAtLast: (changes) => { for (const [name, value] of changes) shelf.setItem(name, value); } }, clocks());
+    const slow = new Keeper(
+        {
+            values,
+            unwritten: new Map(),
+            isKept: true,
+            write: () => new Promise(() => {}),
+            writeAtLast: (changes) => { for (const [name, value] of changes) shelf.setItem(name, value); },
+        },
+        clocks()
+    );
     slow.keep("one", "1");
     slow.flush();
     slow.keep("two", "2");
@@ -60,7 +74,9 @@ test("what was written in the last moment is kept, though no time was left for t
 
 test("what two tabs wrote in the same last moment is kept, and their records go when it is written", async () => {
     const shelf = storage();
-    const tab = async () => new Keeper({ ...await openStore({ database: none, storage: () => shelf }), write: () => new Promise(() => {}) }, clocks());
+    const tab = async () => (
+        new Keeper({ ...await openStore({ database: none, storage: () => shelf }), write: () => new Promise(() => {}) }, clocks())
+    );
     const [first, second] = [await tab(), await tab()];
     first.keep("work/a", "one");
     second.keep("work/b", "two");
@@ -77,7 +93,9 @@ test("what two tabs wrote in the same last moment is kept, and their records go 
 
 test("of the sources that two tabs wrote for one task in the same last moment, one is there and the other can be taken back", async () => {
     const shelf = storage();
-    const tab = async () => new Keeper({ ...await openStore({ database: none, storage: () => shelf }), write: () => new Promise(() => {}) }, clocks());
+    const tab = async () => (
+        new Keeper({ ...await openStore({ database: none, storage: () => shelf }), write: () => new Promise(() => {}) }, clocks())
+    );
     const tabs = [await tab(), await tab()];
     tabs.forEach((keeper, place) => { keeper.keep("task/sum", ` z ${place}`); keeper.keep("language", "de"); });
     tabs.forEach((keeper) => keeper.leave());
@@ -94,7 +112,16 @@ test("what could not be written is tried again, and nothing fails; without a sto
     const time = clocks();
     const written = [];
     let isFull = true;
-    const keeper = new Keeper({ values: new Map(), unwritten: new Map(), isKept: true, write: async (changes) => { if (isFull) throw new Error("full"); written.push(...changes); }, writeAtLast: () => {} }, time);
+    const keeper = new Keeper(
+        {
+            values: new Map(),
+            unwritten: new Map(),
+            isKept: true,
+            write: async (changes) => { if (isFull) throw new Error("full"); written.push(...changes); },
+            writeAtLast: () => {},
+        },
+        time
+    );
     keeper.keep("one", 1);
     await time.pass();
     assert.deepEqual([written, time.timers.length], [[], 1]);
@@ -124,12 +151,24 @@ test("ten works are kept, the newest first; another one begins, and the one befo
     assert.equal(works.of(id), null);
     works.begin();
     works.keep({ title: "only looked at" }, false);
-    assert.deepEqual([works.of(works.id).title, works.all().some(({ title }) => title === "only looked at"), works.begin()], ["only looked at", false, null]);
+    assert.deepEqual(
+        [works.of(works.id).title, works.all().some(({ title }) => title === "only looked at"), works.begin()],
+        ["only looked at", false, null]
+    );
 });
 
 test("what is being written when the page is left is kept, and so is what came after it", async () => {
     let [last, end] = [null, null];
-    const keeper = new Keeper({ values: new Map(), unwritten: new Map(), isKept: true, write: () => new Promise((resolve) => { end = resolve; }), writeAtLast: (changes) => { last = Object.fromEntries(changes); } }, clocks());
+    const keeper = new Keeper(
+        {
+            values: new Map(),
+            unwritten: new Map(),
+            isKept: true,
+            write: () => new Promise((resolve) => { end = resolve; }),
+            writeAtLast: (changes) => { last = Object.fromEntries(changes); },
+        },
+        clocks()
+    );
     keeper.keep("one", "1");
     const written = keeper.flush();
     keeper.leave();
@@ -183,7 +222,11 @@ async function tabs(count) {
         const time = clocks();
         const keeper = await over(shelf, time);
         const sources = new Sources(keeper);
-        const channel = { postMessage: (data) => { for (const other of channels) if (other !== channel) other.onmessage({ data: structuredClone(data) }); } };
+        const channel = {
+            postMessage: (data) => {
+                for (const other of channels) if (other !== channel) other.onmessage({ data: structuredClone(data) });
+            },
+        };
         channels.push(channel);
         shareTasks(channel, keeper, sources);
         return { sources, pass: () => time.pass(), again: async () => new Sources(await over(shelf, clocks())) };
@@ -205,7 +248,10 @@ test("of a task that is open in two tabs neither source is lost", async () => {
     one.sources.keep("sum", " z ; the first, longer");
     await one.pass();
     await other.pass();
-    assert.deepEqual([(await one.again()).of("sum"), other.sources.before("sum"), other.sources.of("sum")], [" z ; the first, longer", " z ; the second", " z ; the second"]);
+    assert.deepEqual(
+        [(await one.again()).of("sum"), other.sources.before("sum"), other.sources.of("sum")],
+        [" z ; the first, longer", " z ; the second", " z ; the second"]
+    );
     one.sources.begin("sum");
     await one.pass();
     assert.equal(other.sources.of("sum"), " z ; the second");
@@ -213,7 +259,9 @@ test("of a task that is open in two tabs neither source is lost", async () => {
 
 test("what an earlier page has kept is taken over once", () => {
     const shelf = storage();
-    for (const [name, value] of [["condugwa-last-session", "put 0000 z\nrun 1\n"], ["condugwa-task-sum", " z"], ["other", "x"]]) shelf.setItem(name, value);
+    for (const [name, value] of [["condugwa-last-session", "put 0000 z\nrun 1\n"], ["condugwa-task-sum", " z"], ["other", "x"]]) {
+        shelf.setItem(name, value);
+    }
     const keeper = new Keeper();
     const works = new Works(keeper);
     takeOver(() => shelf, keeper, works);

@@ -37,7 +37,11 @@ async function opened() {
     await laboratory.run();
     told.push(stands());
     const left = () => laboratory.answers.map(numberIn);
-    const move = async (count) => { await laboratory.command(game.moves[count - 1]); await laboratory.run(); return saidOn(game, laboratory.printed.text); };
+    const move = async (count) => {
+        await laboratory.command(game.moves[count - 1]);
+        await laboratory.run();
+        return saidOn(game, laboratory.printed.text);
+    };
     return { laboratory, stands, told, left, move };
 }
 
@@ -54,7 +58,9 @@ test("a game that is won: the heap is the machine's, and the text says whose tur
 
 test("a game that is lost, and the next one", { skip }, async () => {
     const { laboratory, stands, left, move } = await opened();
-    for (const [count, took, rest] of [[3, 2, 16], [1, 3, 12], [2, 2, 8], [3, 1, 4]]) assert.deepEqual([(await move(count)).took, left()[0]], [took, rest]);
+    for (const [count, took, rest] of [[3, 2, 16], [1, 3, 12], [2, 2, 8], [3, 1, 4]]) {
+        assert.deepEqual([(await move(count)).took, left()[0]], [took, rest]);
+    }
     assert.deepEqual([(await move(2)).kind, left()[0]], ["lost", 0]);
     assert.match(stands(), /^The machine has won/);
     await laboratory.command("press start");

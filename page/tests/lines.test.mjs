@@ -25,11 +25,30 @@ test("a script without the lines that only ask", () => {
 });
 
 test("the title of a script is its first sentence: a point within a number or the name of a file ends none", () => {
-    const cases = [["; One. Two.", "One"], ["; A machine that\n; knows 3.25. More", "A machine that knows 3.25"], ["; The words of a.txt by itself.\n; More", "The words of a.txt by itself"], ["; No end", ""], ["panel", ""]];
+    const cases = [
+        ["; One. Two.", "One"],
+        ["; A machine that\n; knows 3.25. More", "A machine that knows 3.25"],
+        ["; The words of a.txt by itself.\n; More", "The words of a.txt by itself"],
+        ["; No end", ""],
+        ["panel", ""],
+    ];
     for (const [script, title] of cases) assert.equal(headOf(script).title, title, script);
 });
 
 test("a script tells what a word is for, in the comment before its put that begins with its address", () => {
-    const lines = ["; 0004  b 0020   bring the word. And more", "put 0004 00010050", "; 0005  y 0009   store address: the order changes", "put 0006 00020024", "; a word", "put 0007 00000002", "; 0008  17", "put 0008 00000022", "put 0009 b 0020"];
-    assert.deepEqual([...commentsIn(lines)], [["0004", { digits: "00010050", comment: "bring the word" }], ["0008", { digits: "00000022", comment: "17" }]]);
+    const lines = [
+        "; 0004  b 0020   bring the word. And more",
+        "put 0004 00010050",
+        "; 0005  y 0009   store address: the order changes",
+        "put 0006 00020024",
+        "; a word",
+        "put 0007 00000002",
+        "; 0008  17",
+        "put 0008 00000022",
+        "put 0009 b 0020",
+    ];
+    assert.deepEqual(
+        [...commentsIn(lines)],
+        [["0004", { digits: "00010050", comment: "bring the word" }], ["0008", { digits: "00000022", comment: "17" }]]
+    );
 });

@@ -13,7 +13,10 @@ export const MAIN_VISITS = [
     ["writing and pasting", ["writing", "editing", "pasting"]],
     ["mouse and finger", ["touch", "carried", "turnedByDrag", "drumMap"]],
     ["the kiosk", ["kiosk", "kioskSeen", "kioskLetters", "kioskReturns", "fasterKiosk", "game"]],
-    ["exhibits that run a program, each to its end", ["loopByKeys", "formulaByTouches", "twentyOneByKeys", "exhibitsChosen", "exhibitOfOnesOwn"]],
+    [
+        "exhibits that run a program, each to its end",
+        ["loopByKeys", "formulaByTouches", "twentyOneByKeys", "exhibitsChosen", "exhibitOfOnesOwn"],
+    ],
     ["what is sent to others", ["sent", "sentWrong"]],
     ["letters and sizes: what is cut, covered or moved", [
         "oneWindow", "seenWhole", "nothingMoves", "nothingClipped", "noticesWhole", "lookTogether", "taskForAll", "zoomed", "fasterSizes",

@@ -14,7 +14,9 @@ test("a visit that there is not, or that is named twice, is an error", () => {
     assert.throws(() => mainVisits(all, [["opening", ["doors", "dores"]]]), /visits that there are not: dores$/);
     assert.throws(() => mainVisits(all, [["opening", ["doors"]], ["keys", ["doors"]]]), /twice: doors$/);
     assert.throws(() => wantedVisits(all, { named: "doors dores", isMain: true, left: [] }), /visits that there are not: dores$/);
-    assert.throws(() => wantedVisits(["doors"], { named: "doors", isMain: false, left: [] }), /main_visits\.mjs names visits that there are not/);
+    assert.throws(
+        () => wantedVisits(["doors"], { named: "doors", isMain: false, left: [] }), /main_visits\.mjs names visits that there are not/
+    );
 });
 
 test("Chromium makes all visits, the other engines the main ones, and all where that is said", () => {

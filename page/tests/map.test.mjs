@@ -7,7 +7,12 @@ const { rowsOf, usedBy } = await import("../views/map.mjs");
 const account = (fields) => ({ at: "0000", order: "b 0050", word: "0050", stored: null, ...fields });
 
 test("a word is used as the accounts tell it, and the last use counts", () => {
-    const used = usedBy([account({}), account({ at: "0001", order: "h 0050", stored: { address: "0050" } }), account({ at: "0002", order: "u 0000", word: null }), account({ at: null, order: "z 0050", word: null })]);
+    const used = usedBy([
+        account({}),
+        account({ at: "0001", order: "h 0050", stored: { address: "0050" } }),
+        account({ at: "0002", order: "u 0000", word: null }),
+        account({ at: null, order: "z 0050", word: null }),
+    ]);
     assert.deepEqual(used.get("0050"), { performed: 0, read: 1, written: 1, kind: "written", ago: 2 });
     assert.deepEqual(used.get("0000"), { performed: 1, read: 0, written: 0, kind: "performed", ago: 3 });
     assert.deepEqual([...used.keys()], ["0000", "0050", "0001", "0002"]);

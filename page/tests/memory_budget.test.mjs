@@ -14,7 +14,13 @@ const skip = !existsSync(path);
 test("docs/PAGE.md names the bounds", () => {
     const page = readFileSync(join(dirname(path), "../../docs/PAGE.md"), "utf8");
     const { lines, codes, last, asksAfter, told } = LIMITS;
-    const bounds = [`${counted(lines, "en")} bytes of lines`, `${counted(codes - last, "en")} printed codes`, `at most ${counted(codes, "en")}`, `after ${counted(asksAfter, "en")} codes`, `at most ${counted(told, "en")}`];
+    const bounds = [
+        `${counted(lines, "en")} bytes of lines`,
+        `${counted(codes - last, "en")} printed codes`,
+        `at most ${counted(codes, "en")}`,
+        `after ${counted(asksAfter, "en")} codes`,
+        `at most ${counted(told, "en")}`,
+    ];
     assert.deepEqual(bounds.filter((bound) => !page.includes(bound)), []);
 });
 

@@ -154,7 +154,8 @@ test(PROFILED, { skip }, async () => {
     assert.ok(accounts >= 5 * PROGRAMS && bars >= 10 * PROGRAMS, `${accounts} orders, ${bars} bars`);
 });
 
-const PLACED = `${PROGRAMS} random programs, ${PLACINGS} placings of each: what they would take, and all drawn waits, are so by the definitions`;
+const PLACED =
+    `${PROGRAMS} random programs, ${PLACINGS} placings of each: what they would take, and all drawn waits, are so by the definitions`;
 
 test(PLACED, { skip }, async () => {
     let [placings, values] = [0, 0];

@@ -1,4 +1,5 @@
-// A typed `operate` is a run, as the page shows and counts it, and Run goes by it where that is wanted: with the replies of the fake worker, and with those of
+// A typed `operate` is a run, as the page shows and counts it, and Run goes by it where that is wanted: with the replies of the fake
+// worker, and with those of
 // the module, where that is there.
 import assert from "node:assert/strict";
 import { existsSync } from "node:fs";
@@ -49,7 +50,10 @@ test("a script is set up as far as its first operate", () => {
 test("operate may perform as many runs as its orders, and one more: what memory holds is as much", () => {
     const budget = new MemoryBudget();
     const most = budget.mostIn("operate 1000");
-    assert.deepEqual([most, budget.mostIn(`operate ${most}`), most * (most + 1) <= LIMITS.codes, (most + 1) * (most + 2) > LIMITS.codes], [999, null, true, true]);
+    assert.deepEqual(
+        [most, budget.mostIn(`operate ${most}`), most * (most + 1) <= LIMITS.codes, (most + 1) * (most + 2) > LIMITS.codes],
+        [999, null, true, true]
+    );
 });
 
 test("operate by the module: the order of its last run is gone back over, and performed again", { skip: !existsSync(module) }, async () => {
@@ -80,7 +84,9 @@ const TWO = ["put 0000 p =h", "put 0001 z", "put 0002 p =i", "put 0003 z", "put 
 test("Run halts at a z after a p, and by operate it goes on to the end", { skip: !existsSync(module) }, async () => {
     const { laboratory, link } = await overModule(...TWO);
     await laboratory.run();
-    assert.deepEqual([laboratory.printed, laboratory.panel.status, laboratory.panel.counter], [{ count: 1, text: "h" }, "halted stop", "0002"]);
+    assert.deepEqual(
+        [laboratory.printed, laboratory.panel.status, laboratory.panel.counter], [{ count: 1, text: "h" }, "halted stop", "0002"]
+    );
     assert.deepEqual([laboratory.lastRun.starts, laboratory.talk.at(-1)], [0, { line: "run", reply: "ran 2 rest\n" }]);
     await laboratory.operate();
     assert.deepEqual([laboratory.printed, laboratory.panel.counter, laboratory.notice], [{ count: 2, text: "hi" }, "0005", null]);
@@ -89,13 +95,18 @@ test("Run halts at a z after a p, and by operate it goes on to the end", { skip:
     assert.deepEqual(laboratory.talk.at(-1), { line: "operate", reply: "ran 1 rest\n        started again at a z after a p: 2\n" });
     assert.deepEqual(runsIn(link), ["run 20000", "run 20000", "operate 100"]);
     const script = linesIn(await laboratory.transcript());
-    assert.deepEqual(script.filter((line) => /^(run|press)/.test(line)), ["press start", "run 20000", "run 20000", "run 100", "press start", "run 100", "press start", "run 100"]);
+    assert.deepEqual(
+        script.filter((line) => /^(run|press)/.test(line)),
+        ["press start", "run 20000", "run 20000", "run 100", "press start", "run 100", "press start", "run 100"]
+    );
 });
 
 test("by operate a machine at rest is told, and the orders of a run without a start can be gone back over", { skip: !existsSync(module) }, async () => {
     const { laboratory } = await overModule("put 0000 b 0002", "put 0001 z", "press start");
     await laboratory.operate();
-    assert.deepEqual([laboratory.notice, laboratory.history.behind, laboratory.talk.at(-1)], [null, 2, { line: "operate", reply: "ran 2 rest\n" }]);
+    assert.deepEqual(
+        [laboratory.notice, laboratory.history.behind, laboratory.talk.at(-1)], [null, 2, { line: "operate", reply: "ran 2 rest\n" }]
+    );
     await laboratory.operate();
     assert.deepEqual([laboratory.notice, laboratory.history.behind], [{ kind: "atRest" }, 2]);
 });
@@ -103,7 +114,9 @@ test("by operate a machine at rest is told, and the orders of a run without a st
 test("a rule stops a run by operate between two prints", { skip: !existsSync(module) }, async () => {
     const { laboratory } = await overModule(...TWO, "break 0003");
     await laboratory.operate();
-    assert.deepEqual([laboratory.notice, laboratory.panel.counter], [{ kind: "rule", number: 0, rule: "break 0003", isOfScript: false }, "0003"]);
+    assert.deepEqual(
+        [laboratory.notice, laboratory.panel.counter], [{ kind: "rule", number: 0, rule: "break 0003", isOfScript: false }, "0003"]
+    );
     await laboratory.command("drop 0");
     await laboratory.operate();
     assert.deepEqual([laboratory.notice, laboratory.printed.text], [null, "hi"]);
@@ -122,7 +135,10 @@ test("a run by operate that prints much asks whether to go on", { skip: !existsS
 
 test("a run by operate is stopped after its portion, and a long way between two prints is run in larger ones", { skip: !existsSync(module) }, async () => {
     // 0003 counts 5000 down between two prints
-    const loop = ["put 0000 b 0020", "put 0001 h 0021", "put 0002 b 0021", "put 0003 s 0022", "put 0004 h 0021", "put 0005 t 0007", "put 0006 u 0002", "put 0007 p =h", "put 0008 z", "put 0009 u 0000"];
+    const loop = [
+        "put 0000 b 0020", "put 0001 h 0021", "put 0002 b 0021", "put 0003 s 0022", "put 0004 h 0021", "put 0005 t 0007", "put 0006 u 0002",
+        "put 0007 p =h", "put 0008 z", "put 0009 u 0000",
+    ];
     const { laboratory, link } = await overModule(...loop, "put 0020 = 5000", "put 0022 = 1", "press start");
     laboratory.addEventListener("change", () => { if (laboratory.progress?.starts > 2) laboratory.stop(); });
     const { starts } = await laboratory.operate();

@@ -10,10 +10,22 @@ const module = new Uint8Array(readFileSync(new URL("../../libraries/javascript/l
 
 test("whatever the bytes are, they are unpacked as they were, and nothing of the text ends an element or is changed by a page", () => {
     let seed = 1956;
-    const any = Uint8Array.from({ length: 70_000 }, () => { seed = (Math.imul(seed, 1103515245) + 12345) | 0; return (seed >>> 16) & 255; });
+    const any = Uint8Array.from(
+        { length: 70_000 }, () => { seed = (Math.imul(seed, 1103515245) + 12345) | 0; return (seed >>> 16) & 255; }
+    );
     // three distances by turns, so that a copy goes back as far as one of the last ones
-    const turns = Uint8Array.from({ length: 20_000 }, (unused, at) => (at % 700 < 350 ? any[at % 97] : any[at % 61] ^ (at % 350 === 0 ? 1 : 0)));
-    for (const bytes of [any, module, turns, new Uint8Array(0), new Uint8Array(100_000), Uint8Array.of(255, 0, 60, 13), Uint8Array.from({ length: 3000 }, (unused, at) => at % 7)]) {
+    const turns = Uint8Array.from(
+        { length: 20_000 }, (unused, at) => (at % 700 < 350 ? any[at % 97] : any[at % 61] ^ (at % 350 === 0 ? 1 : 0))
+    );
+    for (const bytes of [
+        any,
+        module,
+        turns,
+        new Uint8Array(0),
+        new Uint8Array(100_000),
+        Uint8Array.of(255, 0, 60, 13),
+        Uint8Array.from({ length: 3000 }, (unused, at) => at % 7),
+    ]) {
         assert.equal(Buffer.compare(unpacked(packed(bytes)), bytes), 0);
         assert.match(packed(bytes), /^\d+ [A-Za-z0-9+/=]*$/);
     }
@@ -21,7 +33,9 @@ test("whatever the bytes are, they are unpacked as they were, and nothing of the
 });
 
 test("what xz has once packed is read without it", () => {
-    assert.equal(unpackedText("45 ADoa2gUgHgddfQ33YM5dhjog9sYyuwraytjS8B+QcMbcWP//soAAAA=="), "the drum turns, and the drum turns on, and on");
+    assert.equal(
+        unpackedText("45 ADoa2gUgHgddfQ33YM5dhjog9sYyuwraytjS8B+QcMbcWP//soAAAA=="), "the drum turns, and the drum turns on, and on"
+    );
 });
 
 test("the file is small: 1.3 million bytes at most, and 430 kilobytes on its way through a network; the module's text has 37 of a hundred of its bytes", () => {

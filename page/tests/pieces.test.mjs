@@ -8,7 +8,10 @@ const printed = (...texts) => texts.map((text) => ({ text, isTyped: false }));
 test("a paper is rows, what was typed at the beginning of a line has one of its own, and a long line goes on in the next row", () => {
     assert.deepEqual(rowsOf("", []), []);
     assert.deepEqual(rowsOf("12\n30\n", []), printed("12", "30"));
-    assert.deepEqual(rowsOf("12\n30", [{ at: 3, keys: "1000 '" }, { at: 3, keys: "-0059'" }]), [...printed("12"), { text: "1000  -0059", isTyped: true }, ...printed("30")]);
+    assert.deepEqual(
+        rowsOf("12\n30", [{ at: 3, keys: "1000 '" }, { at: 3, keys: "-0059'" }]),
+        [...printed("12"), { text: "1000  -0059", isTyped: true }, ...printed("30")]
+    );
     assert.deepEqual(rowsOf("you take 2\n", [{ at: 9, keys: "2'" }]), printed("you take 22"));
     assert.deepEqual(rowsOf("", [{ at: 0, keys: "7'" }]), [{ text: "7", isTyped: true }]);
     assert.deepEqual(rowsOf("x".repeat(250), []).map(({ text }) => text.length), [100, 100, 50]);
@@ -21,10 +24,19 @@ test("a row is typed again as its numbers, each with a conditional stop", () => 
 });
 
 test("rows that begin with the same number stand side by side, and the first that differs is told", () => {
-    const [left, right] = [printed("1000 1", "1025 2", "1050 3", "1100 9"), [...printed("1725 0"), { text: "1000 1", isTyped: true }, ...printed("1000 1", "1025 4", "1075 5", "1100 9")]];
+    const [left, right] = [
+        printed("1000 1", "1025 2", "1050 3", "1100 9"),
+        [...printed("1725 0"), { text: "1000 1", isTyped: true }, ...printed("1000 1", "1025 4", "1075 5", "1100 9")],
+    ];
     const { pairs, shared, differs } = sideBySide(left, right);
     assert.deepEqual([shared, differs], [3, "1025"]);
-    assert.deepEqual(pairs.map(([one, other]) => [one?.text ?? null, other?.text ?? null]), [[null, "1725 0"], [null, "1000 1"], ["1000 1", "1000 1"], ["1025 2", "1025 4"], ["1050 3", null], [null, "1075 5"], ["1100 9", "1100 9"]]);
+    assert.deepEqual(
+        pairs.map(([one, other]) => [one?.text ?? null, other?.text ?? null]),
+        [
+            [null, "1725 0"], [null, "1000 1"], ["1000 1", "1000 1"], ["1025 2", "1025 4"], ["1050 3", null], [null, "1075 5"],
+            ["1100 9", "1100 9"],
+        ]
+    );
     assert.deepEqual(pairs.map(([row]) => row).filter((row) => row !== null), left);
     assert.deepEqual(pairs.map(([, row]) => row).filter((row) => row !== null), right);
     assert.deepEqual(differing("0261", "0262"), [{ text: "026", isOther: false }, { text: "1", isOther: true }]);
@@ -47,7 +59,9 @@ test("a piece that is torn off is kept with what was typed on it, and the paper 
     const pieces = new Pieces(place());
     assert.equal(pieces.tear("", [], "10:40"), undefined);
     assert.equal(pieces.tear("12\n", [{ at: 3, keys: "7'" }], "10:41"), null);
-    assert.deepEqual(pieces.all, { torn: 3, typedTorn: 1, pieces: [{ number: 1, at: "10:41", text: "12\n", typed: [{ at: 3, keys: "7'" }] }] });
+    assert.deepEqual(pieces.all, {
+        torn: 3, typedTorn: 1, pieces: [{ number: 1, at: "10:41", text: "12\n", typed: [{ at: 3, keys: "7'" }] }],
+    });
     assert.deepEqual(pieces.rest("12\n", [{ at: 3, keys: "7'" }]), { text: "", typed: [] });
     assert.deepEqual(pieces.rest("12\n30", [{ at: 3, keys: "7'" }, { at: 5, keys: "8'" }]), { text: "30", typed: [{ at: 2, keys: "8'" }] });
     // a machine that has printed less is another one, or has gone back

@@ -50,7 +50,10 @@ result  word 00000000
         word 00000008
         end main`;
 
-/** How many word times a source takes that is loaded and run to its end, from where its first order was read on: how long the head has to wait for that depends on where the loader has ended. */
+/**
+ * How many word times a source takes that is loaded and run to its end, from where its first order was read on: how long the head has to
+ * wait for that depends on where the loader has ended.
+ */
 async function took(link, source) {
     await link.anew();
     const loaded = await link.askAll(["source", ...source.split("\n"), ".", "load"]);
@@ -63,11 +66,17 @@ async function took(link, source) {
 const sourceIn = (script) => /^source\n([^]*?)\n\.$/m.exec(script)[1];
 
 /** Programs, each with the words that are moved. */
-const PROGRAMS = [["the sum", SUM, ["0021", "0022", "0024"], 500], ["the root", sourceIn(scriptOf("square-root")), ["0009", "0010", "0011"], 300], ["the household", sourceIn(scriptOf("drum/household")).replace("-1957", "-95"), ["0128", "0130", "0132"], 200]];
+const PROGRAMS = [
+    ["the sum", SUM, ["0021", "0022", "0024"], 500],
+    ["the root", sourceIn(scriptOf("square-root")), ["0009", "0010", "0011"], 300],
+    ["the household", sourceIn(scriptOf("drum/household")).replace("-1957", "-95"), ["0128", "0130", "0132"], 200],
+];
 
 /** Numbers that look random and are the same each time. */
 function* numbers(below) {
-    for (let state = 1957n; ; state = (state * 6364136223846793005n + 1442695040888963407n) % 2n ** 64n) yield Number((state >> 40n) % BigInt(below));
+    for (let state = 1957n; ; state = (state * 6364136223846793005n + 1442695040888963407n) % 2n ** 64n) {
+        yield Number((state >> 40n) % BigInt(below));
+    }
 }
 
 const wordsIn = (said, source) => new Set(source.split("\n").flatMap((unused, place) => said.wordOf(place + 1)?.place ?? []));
@@ -116,9 +125,15 @@ test("the words of the sum are those of its example, and with three of them else
     const placing = new Placing(accounts, told);
     const sorted = (address) => placing.bestOf(address).sort((one, other) => one - other);
     assert.deepEqual([placing.took, placing.least, placing.times, placing.moved], [2910, 2142, 2910, []]);
-    assert.deepEqual(["0021", "0022", "0024"].map(sorted), [[0, 29, 36, 43, 50, 57], [27, 34, 41, 48, 55, 62], [23, 25, 30, 32, 37, 39, 44, 46, 51, 53, 58, 60]]);
+    assert.deepEqual(
+        ["0021", "0022", "0024"].map(sorted),
+        [[0, 29, 36, 43, 50, 57], [27, 34, 41, 48, 55, 62], [23, 25, 30, 32, 37, 39, 44, 46, 51, 53, 58, 60]]
+    );
     for (const [address, sector] of [["0021", 43], ["0022", 41], ["0024", 37]]) placing.move(address, sector);
-    assert.deepEqual([placing.times, placing.saved("0022"), placing.isBest("0024"), placing.moved.length, timesOf(placing.drawn)], [2142, 256, true, 3, 2142]);
+    assert.deepEqual(
+        [placing.times, placing.saved("0022"), placing.isBest("0024"), placing.moved.length, timesOf(placing.drawn)],
+        [2142, 256, true, 3, 2142]
+    );
     placing.move("0024", 22);
     assert.deepEqual([placing.isBest("0024"), placing.times], [false, 2142 + 256 - placing.savedAt("0024", 22)]);
     placing.reset();
@@ -137,10 +152,21 @@ test("waits are drawn only where their sum is what the monitor says", () => {
 
 test("a word has an org before it, and what comes after it another one, where it needs one", { skip }, async () => {
     const withWord = async (source, address, place) => withWordAt(source, await checker.ask(source), address, place);
-    assert.equal(await withWord(" b one\n z\none int 1 30 ; one\ntwo int 2 30\n end", "0002", "0041"), " b one\n z\n    org 0041\none int 1 30 ; one\n    org 0003\ntwo int 2 30\n end");
-    assert.equal(await withWord("  org 0010 ; here\none int 1 30\n\n; no more\n  end", "0010", "0041"), "  org 0041 ; here\none int 1 30\n\n; no more\n  end");
-    assert.equal(await withWord("  org 0010\none int 1 30\ntwo\n  end", "0010", "0141"), "  org 0141\none int 1 30\n    org 0011\ntwo\n  end");
-    assert.equal(await withWord("here org 0010\none int 1 30\n org 0020\n z\n end", "0010", "0041"), "here org 0010\n    org 0041\none int 1 30\n org 0020\n z\n end");
+    assert.equal(
+        await withWord(" b one\n z\none int 1 30 ; one\ntwo int 2 30\n end", "0002", "0041"),
+        " b one\n z\n    org 0041\none int 1 30 ; one\n    org 0003\ntwo int 2 30\n end"
+    );
+    assert.equal(
+        await withWord("  org 0010 ; here\none int 1 30\n\n; no more\n  end", "0010", "0041"),
+        "  org 0041 ; here\none int 1 30\n\n; no more\n  end"
+    );
+    assert.equal(
+        await withWord("  org 0010\none int 1 30\ntwo\n  end", "0010", "0141"), "  org 0141\none int 1 30\n    org 0011\ntwo\n  end"
+    );
+    assert.equal(
+        await withWord("here org 0010\none int 1 30\n org 0020\n z\n end", "0010", "0041"),
+        "here org 0010\n    org 0041\none int 1 30\n org 0020\n z\n end"
+    );
 });
 
 test("several words are written elsewhere at once, and the run takes what was foretold; where an order names one by its address nothing is, and its line is that of the source", { skip }, async () => {
@@ -159,10 +185,16 @@ test("several words are written elsewhere at once, and the run takes what was fo
     assert.equal(await took(link, text), placing.least - accounts[0].find);
     const byNumber = SUM.replace("s last", "s 0021");
     const wrong = await movedSource(checker, byNumber, accounts, [words[1], words[0]]);
-    assert.deepEqual([wrong.wrong, wrong.address, wrong.line, wrong.text], ["byNumber", "0021", byNumber.split("\n").findIndex((line) => line.includes("s 0021")) + 1, undefined]);
+    assert.deepEqual(
+        [wrong.wrong, wrong.address, wrong.line, wrong.text],
+        ["byNumber", "0021", byNumber.split("\n").findIndex((line) => line.includes("s 0021")) + 1, undefined]
+    );
 });
 
 test("the first free place of a sector is not the loader's", () => {
     const all = (tracks) => new Set(Array.from({ length: tracks }, (unused, track) => `${String(track).padStart(2, "0")}05`));
-    assert.deepEqual([freePlace(5, new Set()), freePlace(5, all(1)), freePlace(5, all(63)), freePlace(30, new Set(["0030"]))], ["0005", "0105", null, "0130"]);
+    assert.deepEqual(
+        [freePlace(5, new Set()), freePlace(5, all(1)), freePlace(5, all(63)), freePlace(30, new Set(["0030"]))],
+        ["0005", "0105", null, "0130"]
+    );
 });

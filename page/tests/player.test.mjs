@@ -3,8 +3,14 @@ import assert from "node:assert/strict";
 import { test } from "node:test";
 import { Player, markAt } from "../player.mjs";
 
-const bring = { clock: 90n, at: "0004", order: "b 0020", find: 24, take: 1, seek: 15, act: 1, sum: 41, before: "00000000", after: "00000100", register: "00010050", next: "0005" };
-const jump = { clock: 131n, at: "6363", order: "u 0004", find: 10, take: 1, seek: 1, act: 1, sum: 13, before: "00000100", after: "00000100", register: "000f0010", next: "0004" };
+const bring = {
+    clock: 90n, at: "0004", order: "b 0020", find: 24, take: 1, seek: 15, act: 1, sum: 41, before: "00000000", after: "00000100",
+    register: "00010050", next: "0005",
+};
+const jump = {
+    clock: 131n, at: "6363", order: "u 0004", find: 10, take: 1, seek: 1, act: 1, sum: 13, before: "00000100", after: "00000100",
+    register: "000f0010", next: "0004",
+};
 const print = { ...jump, order: "p 4600", act: 384, sum: 396, next: "0000" };
 const played = (account, milliseconds, settings = {}) => {
     const player = Object.assign(new Player(), settings);
@@ -28,7 +34,9 @@ test("the phases pass one after another, each for its word times", () => {
 });
 
 test("counter and register change at the end of take, the accumulator and a jump's counter at the end of act", () => {
-    const told = (account, times) => (({ counter, register, accumulator, done }) => [counter, register, accumulator, done])(played(account, 1000 * times, { pace: 1 }));
+    const told = (account, times) => (
+        (({ counter, register, accumulator, done }) => [counter, register, accumulator, done])(played(account, 1000 * times, { pace: 1 }))
+    );
     assert.deepEqual(told(bring, 24.5), ["0004", null, "00000000", false]);
     assert.deepEqual(told(bring, 25.5), ["0005", "00010050", "00000000", false]);
     assert.deepEqual(told(bring, 41.5), ["0005", "00010050", "00000100", true]);
@@ -91,9 +99,13 @@ test("codes pass in the reader one after another, each for a time that can be se
     const input = { ...jump, order: "i 0000", act: 6 * 384 + 1, passed: 6, sum: 12 + 6 * 384 + 1 };
     for (const pace of [32, 64]) {
         const until = (1000 * 12) / pace;
-        const codes = [0, until - 1, until + 100, until + 170, until + 170 + 160, until + 4 * 160 + 10, until + 5 * 160 + 10].map((milliseconds) => played(input, milliseconds, { pace }).codes);
+        const codes = [0, until - 1, until + 100, until + 170, until + 170 + 160, until + 4 * 160 + 10, until + 5 * 160 + 10].map(
+            (milliseconds) => played(input, milliseconds, { pace }).codes
+        );
         assert.deepEqual(codes, [6, 6, 6, 5, 4, 2, 1]);
-        assert.deepEqual([played(input, until + 6 * 160 + 1, { pace }).codes, played(input, until + 6 * 160 + 1, { pace }).done], [0, true]);
+        assert.deepEqual(
+            [played(input, until + 6 * 160 + 1, { pace }).codes, played(input, until + 6 * 160 + 1, { pace }).done], [0, true]
+        );
     }
     assert.deepEqual([played(input, 0, { isStill: true }).codes, played(bring, 10).codes], [6, 0]);
 });
@@ -110,6 +122,9 @@ test("the order under way is one: the one that is played, then the same as done,
     assert.deepEqual(at(30), ["0004", "b 0020", "seek", "0005", "0020"]);
     assert.deepEqual(at(40.5), ["0004", "b 0020", "act", "0005", "0020"]);
     assert.deepEqual(at(42), ["0004", "b 0020", "done", "0005", "0020"]);
-    assert.deepEqual(markAt({ played: null, last: null, panel }), { now: null, order: null, phase: null, coming: "0005", operand: null, isWritten: false });
+    assert.deepEqual(
+        markAt({ played: null, last: null, panel }),
+        { now: null, order: null, phase: null, coming: "0005", operand: null, isWritten: false }
+    );
     assert.equal(markAt({ played: null, last: { ...account, stored: { address: "0020" } }, panel }).isWritten, true);
 });

@@ -1,4 +1,5 @@
-// Exhibits that run a program, without a browser: the paper is what the example prints, as the files of examples/ have it; each caption comes about when its row is on the paper; and whatever is pressed, nothing breaks.
+// Exhibits that run a program, without a browser: the paper is what the example prints, as the files of examples/ have it; each caption
+// comes about when its row is on the paper; and whatever is pressed, nothing breaks.
 // TOUCHES says how many touches each exhibit gets.
 import assert from "node:assert/strict";
 import { existsSync, readFileSync, readdirSync } from "node:fs";
@@ -23,7 +24,12 @@ const HURRY = Math.max(1, Math.round(TOUCHES / 400));
 const examples = new Map(scriptsBelow(join(top, "examples")));
 const exhibits = exhibitsBelow(join(top, "page/exhibits"), join(top, "examples"));
 /** Those that a museum would have, and all. */
-const museums = Object.fromEntries(readdirSync(join(top, "docs/exhibits")).map((file) => [file.replace(/\.json$/, ""), exhibitIn(readFileSync(join(top, "docs/exhibits", file), "utf8"), (name) => examples.has(name)).exhibit]));
+const museums = Object.fromEntries(
+    readdirSync(join(top, "docs/exhibits")).map((file) => [
+        file.replace(/\.json$/, ""),
+        exhibitIn(readFileSync(join(top, "docs/exhibits", file), "utf8"), (name) => examples.has(name)).exhibit,
+    ])
+);
 const all = { ...exhibits, ...museums };
 const settings = { module, scriptOf: (name) => examples.get(name), chance: () => 7 };
 
@@ -42,7 +48,10 @@ function holds({ row, place, order, when }, { laboratory, running }) {
     return { keys: way.kind === "keys", stop: ["start", "mode"].includes(way.kind), torn: running.isTorn, done: true }[when] ?? true;
 }
 
-/** Compares each caption, when it comes about, with what it speaks of. Gives those that have come, and those of them of which that is not so. */
+/**
+ * Compares each caption, when it comes about, with what it speaks of. Gives those that have come, and those of them of which that is not
+ * so.
+ */
 function comparedCaptions(trial) {
     const [come, wrong] = [new Set(), []];
     const look = () => {
@@ -56,13 +65,18 @@ function comparedCaptions(trial) {
     return { come, wrong };
 }
 
-/** An exhibit after presses, each done to its end, and all that it has told, each with the paper at that moment. Each caption has come about when what it speaks of was so. */
+/**
+ * An exhibit after presses, each done to its end, and all that it has told, each with the paper at that moment. Each caption has come about
+ * when what it speaks of was so.
+ */
 async function after(name, ...presses) {
     const trial = await trialOf(all[name], settings);
     const [told, { come, wrong }] = [[], comparedCaptions(trial)];
     trial.running.addEventListener("change", () => {
         const { running: { told: caption }, laboratory } = trial;
-        if (caption !== null && told.at(-1)?.caption !== caption) told.push({ caption, paper: laboratory.printed.text, torn: trial.running.paper.text });
+        if (caption !== null && told.at(-1)?.caption !== caption) {
+            told.push({ caption, paper: laboratory.printed.text, torn: trial.running.paper.text });
+        }
     });
     for (const number of presses) await trial.running.press(number);
     // what has come about is told one after another
@@ -74,7 +88,9 @@ async function after(name, ...presses) {
 /** Each caption that waits for a row was told when the row was on the paper. */
 function assertRows(told, count) {
     const ofRows = told.filter(({ caption }) => caption.row !== undefined);
-    for (const { caption, torn } of ofRows) assert.ok(torn.split("\n").some((line) => line.trimStart().startsWith(caption.row)), caption.row);
+    for (const { caption, torn } of ofRows) {
+        assert.ok(torn.split("\n").some((line) => line.trimStart().startsWith(caption.row)), caption.row);
+    }
     assert.equal(ofRows.length, count);
 }
 
@@ -92,13 +108,20 @@ test("row 1000 typed again, as it is printed: both runs are those of the example
     const { laboratory, running, told } = await after("weather", 2);
     assert.equal(laboratory.printed.text, expectedOf("weather/lorenz"));
     const [piece] = running.pieces.all.pieces;
-    assert.deepEqual([rowsOf(piece.text, []).at(-1).text.slice(0, 4), rowsOf(running.paper.text, running.paper.typed)[0]], ["1725", { text: "1000  -0059  -0058  0240", isTyped: true }]);
+    assert.deepEqual(
+        [rowsOf(piece.text, []).at(-1).text.slice(0, 4), rowsOf(running.paper.text, running.paper.typed)[0]],
+        ["1725", { text: "1000  -0059  -0058  0240", isTyped: true }]
+    );
     assert.equal(`${piece.text}${running.paper.text}`, laboratory.printed.text);
     assertRows(told, 4);
     // the captions say at which rows a number is five, twenty and more than a hundred units off for the first time
-    const numbersOf = (text) => new Map(rowsOf(text, []).map((row) => row.text.match(/-?\d+/g)?.map(Number) ?? []).map(([first, ...numbers]) => [first, numbers]));
+    const numbersOf = (text) => (
+        new Map(rowsOf(text, []).map((row) => row.text.match(/-?\d+/g)?.map(Number) ?? []).map(([first, ...numbers]) => [first, numbers]))
+    );
     const [before, again] = [piece.text, running.paper.text].map(numbersOf);
-    const firstOff = (least) => [...again].find(([row, numbers]) => numbers.some((number, at) => Math.abs(number - before.get(row)?.[at]) >= least))[0];
+    const firstOff = (least) => (
+        [...again].find(([row, numbers]) => numbers.some((number, at) => Math.abs(number - before.get(row)?.[at]) >= least))[0]
+    );
     assert.deepEqual([5, 20, 101].map(firstOff), [1275, 1480, 1635]);
     // what was passed over is known by the machine's clock, and what was not is at a pace
     assert.ok(running.passedOver > 11_000_000 && running.clocks.machine > running.passedOver, `${running.passedOver}`);
@@ -153,7 +176,9 @@ test("a bit of the carry back and on, and all at once: it stands still for the v
 test("a formula: from tape and by the keys the paper is what the example prints, and the orders made are those of its listing", { skip }, async () => {
     const tape = await after("formula", 1);
     assert.equal(tape.laboratory.printed.text, expectedOf("floating-point/formulas", 0));
-    const listed = linesIn(readFileSync(join(top, "examples/floating-point/formulas.expected"), "utf8")).filter((line) => /^40\d\d [a-z] /.test(line));
+    const listed = linesIn(readFileSync(join(top, "examples/floating-point/formulas.expected"), "utf8")).filter(
+        (line) => /^40\d\d [a-z] /.test(line)
+    );
     assert.deepEqual(linesIn(tape.laboratory.answers[0]), listed);
     const third = await after("formula", 2);
     assert.equal(third.laboratory.printed.text, expectedOf("floating-point/formulas", 1).split("\n").slice(1).join("\n"));
@@ -176,7 +201,10 @@ test("twenty-one: shuffled by 1956 the games are those of the example, and who h
 test("the primes: the sieve stands at each number that a caption speaks of, the row is what the example prints, and the bet is told", { skip }, async () => {
     const { laboratory, running, told } = await after("primes", 1);
     assert.deepEqual([running.scene, running.told.when, laboratory.labels.get(laboratory.panel.counter)], ["sieve", "done", ["prime"]]);
-    assert.deepEqual(told.flatMap(({ caption: { place, times = 1 } }) => (place === undefined ? [] : [[place, times]])), [["prime", 1], ["off", 1], ["prime", 2]]);
+    assert.deepEqual(
+        told.flatMap(({ caption: { place, times = 1 } }) => (place === undefined ? [] : [[place, times]])),
+        [["prime", 1], ["off", 1], ["prime", 2]]
+    );
     assert.equal(laboratory.printed.text, "2 ");
     await running.press(2);
     while (running.isBusy || running.told.bet === undefined) await laboratory.settled();
@@ -223,13 +251,21 @@ test("all scenes of each exhibit are reached and played, and none leads to a ref
 
 test("what a machine refuses, a source with a fault and a place that is no label are told", { skip }, async () => {
     const text = { en: "x", de: "x" };
-    const exhibitOf = (program, actions, captions = [{ text }]) => exhibitIn(JSON.stringify({ title: text, scenes: { attract: { program, do: actions, captions, buttons: [{ text, to: "attract" }] } } }), () => true).exhibit;
+    const exhibitOf = (program, actions, captions = [{ text }]) => exhibitIn(
+        JSON.stringify({ title: text, scenes: { attract: { program, do: actions, captions, buttons: [{ text, to: "attract" }] } } }),
+        () => true
+    ).exhibit;
     const source = ["start p =h", " z 0000", " end start"];
     const wrongOf = async (...given) => (await played(exhibitOf(...given), settings)).wrong;
     assert.deepEqual(await wrongOf(source, [{ press: "start" }, { run: "fast" }]), []);
     assert.match((await wrongOf(["start q 0000", " end start"], []))[0], /^scenes\.attract: the source has a fault: .*UnknownOrder/);
-    assert.match((await wrongOf(source, [{ press: "start" }, { run: "fast", to: { place: "begin" } }]))[0], /^scenes\.attract: "begin" is not a label of its program\. The labels are start\.$/);
-    const { remarks } = await played(exhibitOf(source, [{ press: "start" }, { run: "fast" }], [{ text }, { text, row: "good" }, { text, row: "h" }]), settings);
+    assert.match(
+        (await wrongOf(source, [{ press: "start" }, { run: "fast", to: { place: "begin" } }]))[0],
+        /^scenes\.attract: "begin" is not a label of its program\. The labels are start\.$/
+    );
+    const { remarks } = await played(
+        exhibitOf(source, [{ press: "start" }, { run: "fast" }], [{ text }, { text, row: "good" }, { text, row: "h" }]), settings
+    );
     assert.deepEqual(remarks, ["scenes.attract.captions[1] did not come about here."]);
 });
 
@@ -237,7 +273,16 @@ test("the screen of choice: three exhibits and more on each page, the first scen
     const { laboratory, drive, running, clocks } = await trialOf(exhibits.weather, settings);
     running.leave();
     const opened = [];
-    const choice = new Choice(laboratory, drive, { files: new Map(Object.entries(exhibits)), others: [{ name: "language", label: "kioskLanguage" }], open: (name) => opened.push(name) }, { ...settings, ...clocks });
+    const choice = new Choice(
+        laboratory,
+        drive,
+        {
+            files: new Map(Object.entries(exhibits)),
+            others: [{ name: "language", label: "kioskLanguage" }],
+            open: (name) => opened.push(name),
+        },
+        { ...settings, ...clocks }
+    );
     const titles = Object.values(exhibits).map(({ title }) => title);
     assert.deepEqual(choice.labels, [...titles.slice(0, 3), "kioskMore"]);
     choice.press(2);

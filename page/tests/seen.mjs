@@ -1,18 +1,30 @@
-// What of a page is not seen as it should be, as it stands in its window. Each function gives the troubles found as lines of text, none where all is well.
+// What of a page is not seen as it should be, as it stands in its window. Each function gives the troubles found as lines of text, none
+// where all is well.
 
 /** Lists, texts and editors, in which what is beyond their edge is scrolled to. */
-const LISTS = ".scroll, .with-arrows, .steps, .script-lines, .log, .transcript, .rows, .torn, .task-text, .task-answer, .explanation-text, .paper, .piece-rows, .reply, .lines-of-step pre, .notice, .tells, .editor, .CodeMirror-hints, .card, .tab-panel, .tales > .line, .unseen, .told, .map-answer, .why, .rules, .costs-told";
+const LISTS =
+    ".scroll, .with-arrows, .steps, .script-lines, .log, .transcript, .rows, .torn, .task-text, .task-answer, .explanation-text, .paper, .piece-rows, .reply, .lines-of-step pre, .notice, .tells, .editor, .CodeMirror-hints, .card, .tab-panel, .tales > .line, .unseen, .told, .map-answer, .why, .rules, .costs-told";
 
 /** Waits until the page has been drawn, and with that arranged for the size of its window. */
 export const laidOut = (browser) => browser.value("new Promise((resolve) => requestAnimationFrame(() => requestAnimationFrame(resolve)))");
 
-/** Runs in the page: texts below ten pixels, as they are drawn; texts that something cuts off that is no list, that reach beyond the window or their control, or that lie upon one another; and traces beyond their rows. */
+/**
+ * Runs in the page: texts below ten pixels, as they are drawn; texts that something cuts off that is no list, that reach beyond the window
+ * or their control, or that lie upon one another; and traces beyond their rows.
+ */
 function textsInPage(lists, least) {
     const [found, placed] = [[], []];
-    const isSeen = (node) => node.checkVisibility({ visibilityProperty: true, opacityProperty: true }) && node.closest("option, noscript, script") === null && getComputedStyle(node).clipPath !== "inset(50%)" && getComputedStyle(node).visibility !== "hidden";
+    const isSeen = (node) => (
+        node.checkVisibility({ visibilityProperty: true, opacityProperty: true })
+            && node.closest("option, noscript, script") === null
+            && getComputedStyle(node).clipPath !== "inset(50%)"
+            && getComputedStyle(node).visibility !== "hidden"
+    );
     const scaleOf = (node) => (node.namespaceURI.endsWith("svg") ? (({ a, b }) => Math.hypot(a, b))(node.getScreenCTM()) : 1);
     const cuts = (at) => /hidden|clip|auto|scroll/.test(getComputedStyle(at).overflowX + getComputedStyle(at).overflowY);
-    const beyond = (box, { left, top, right, bottom }) => box.left < left - 1.5 || box.top < top - 1.5 || box.right > right + 1.5 || box.bottom > bottom + 1.5;
+    const beyond = (box, { left, top, right, bottom }) => (
+        box.left < left - 1.5 || box.top < top - 1.5 || box.right > right + 1.5 || box.bottom > bottom + 1.5
+    );
     const walker = document.createTreeWalker(document.getElementById("page"), NodeFilter.SHOW_TEXT);
     for (let text = walker.nextNode(); text !== null; text = walker.nextNode()) {
         const node = text.parentElement;
@@ -30,15 +42,25 @@ function textsInPage(lists, least) {
         if (beyond(box, { left: 0, top: 0, right: innerWidth, bottom: innerHeight })) found.push(`${name} reaches beyond the window`);
         const control = node.closest("button, label, a[href]");
         if (control !== null && beyond(box, control.getBoundingClientRect())) found.push(`${name} reaches beyond its control`);
-        const over = placed.find(([other, it]) => !node.contains(it) && !it.contains(node) && Math.min(box.right, other.right) - Math.max(box.left, other.left) > 1.5 && Math.min(box.bottom, other.bottom) - Math.max(box.top, other.top) > 3);
+        const over = placed.find(([other, it]) => (
+            !node.contains(it)
+                && !it.contains(node)
+                && Math.min(box.right, other.right) - Math.max(box.left, other.left) > 1.5
+                && Math.min(box.bottom, other.bottom) - Math.max(box.top, other.top) > 3
+        ));
         if (over !== undefined) found.push(`${name} lies upon "${over[1].textContent.trim().slice(0, 24)}"`);
         placed.push([box, node]);
         for (let at = node; at !== document.body; at = at.parentElement) {
-            if (cuts(at) && beyond(box, at.getBoundingClientRect())) { found.push(`${name} is cut off by ${at.getAttribute("class")}`); break; }
+            if (cuts(at) && beyond(box, at.getBoundingClientRect())) {
+                found.push(`${name} is cut off by ${at.getAttribute("class")}`);
+                break;
+            }
         }
     }
     for (const canvas of document.querySelectorAll(".trace canvas")) {
-        if (canvas.checkVisibility() && beyond(canvas.getBoundingClientRect(), canvas.parentElement.getBoundingClientRect())) found.push("a trace reaches beyond its row");
+        if (canvas.checkVisibility() && beyond(canvas.getBoundingClientRect(), canvas.parentElement.getBoundingClientRect())) {
+            found.push("a trace reaches beyond its row");
+        }
     }
     return found;
 }
@@ -54,19 +76,33 @@ function unhitInPage(lists) {
         for (let list = it.closest(lists); list !== null; list = list.parentElement.closest(lists)) {
             const { left, top, right, bottom } = list.getBoundingClientRect();
             // on its very edge what lies beside the list is hit; and a broad edge below hides a row that would be cut
-            if (x < left + 1 || x > right - 1 || y < top + 1 || y > bottom - parseFloat(getComputedStyle(list).borderBottomWidth) - 1) return true;
+            if (x < left + 1 || x > right - 1 || y < top + 1 || y > bottom - parseFloat(getComputedStyle(list).borderBottomWidth) - 1) {
+                return true;
+            }
         }
         return false;
     };
     for (const it of document.querySelectorAll("#page :is(button, input, select, a[href], summary, [role=textbox], [role=slider])")) {
-        if (!it.checkVisibility({ visibilityProperty: true }) || it.closest(".unseen, .skip, .CodeMirror > div:first-child") !== null) continue;
+        if (!it.checkVisibility({ visibilityProperty: true }) || it.closest(".unseen, .skip, .CodeMirror > div:first-child") !== null) {
+            continue;
+        }
         const box = it.getBoundingClientRect();
         const [x, y] = [box.left + box.width / 2, box.top + box.height / 2];
         if (isScrolledAway(it, x, y)) continue;
         const hit = document.elementFromPoint(x, y);
         // the head of a list, and the bar by which it is scrolled, stand upon rows that have been scrolled below them
-        if (hit?.closest("thead") != null && it.closest("tbody") !== null || hit?.matches(lists) && hit.contains(it) || hit?.closest(".thumbs") != null) continue;
-        if (hit === null || !(it.contains(hit) || labelOf(it).contains(hit) || hit.contains(it) && it.matches("[role=textbox]"))) found.push(`${it.tagName} ${it.id || it.getAttribute("aria-label") || it.textContent.trim().slice(0, 24)} is not hit but ${hit?.tagName}.${hit?.getAttribute("class")}`);
+        if (hit?.closest("thead") != null && it.closest("tbody") !== null
+            || hit?.matches(lists) && hit.contains(it)
+            || hit?.closest(".thumbs") != null) {
+            continue;
+        }
+        if (hit === null || !(it.contains(hit) || labelOf(it).contains(hit) || hit.contains(it) && it.matches("[role=textbox]"))) {
+            found.push(
+                `${it.tagName} ${it.id
+                    || it.getAttribute("aria-label")
+                    || it.textContent.trim().slice(0, 24)} is not hit but ${hit?.tagName}.${hit?.getAttribute("class")}`
+            );
+        }
     }
     return found;
 }
@@ -98,7 +134,11 @@ export async function unseenAtLast(browser, selectors) {
 }
 
 /** The size of the smallest number on the drum that is seen, in pixels. */
-export const numbersOf = (browser) => browser.value("Math.min(...[...document.querySelectorAll('.cell text')].filter((it) => getComputedStyle(it).visibility !== 'hidden').map((it) => parseFloat(getComputedStyle(it).fontSize) * (({ a, b }) => Math.hypot(a, b))(it.getScreenCTM())))");
+export const numbersOf = (browser) => browser.value(
+    "Math.min(...[...document.querySelectorAll('.cell text')].filter((it) => getComputedStyle(it).visibility !== 'hidden').map((it) => parseFloat(getComputedStyle(it).fontSize) * (({ a, b }) => Math.hypot(a, b))(it.getScreenCTM())))"
+);
 
 /** Where controls, panes and drum are. */
-export const boxes = (browser) => browser.value(`[...document.querySelectorAll("#page :is(button:not(.plain, .account-bar), .pane, .drum-box, .editor, .tabbed, .pace, .scope)")].filter((it) => it.checkVisibility() && it.closest("#notices") === null).map((it) => [it.id || it.dataset.name || (it.tagName === "BUTTON" ? it.textContent.slice(0, 20) : it.classList[0]), ...Object.values(it.getBoundingClientRect().toJSON()).slice(0, 4).map(Math.round)].join(" "))`);
+export const boxes = (browser) => browser.value(
+    `[...document.querySelectorAll("#page :is(button:not(.plain, .account-bar), .pane, .drum-box, .editor, .tabbed, .pace, .scope)")].filter((it) => it.checkVisibility() && it.closest("#notices") === null).map((it) => [it.id || it.dataset.name || (it.tagName === "BUTTON" ? it.textContent.slice(0, 20) : it.classList[0]), ...Object.values(it.getBoundingClientRect().toJSON()).slice(0, 4).map(Math.round)].join(" "))`
+);

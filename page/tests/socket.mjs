@@ -24,7 +24,10 @@ function frameOf(text) {
     return Buffer.concat([headOf(bytes.length), mask, bytes.map((byte, place) => byte ^ mask[place % 4])]);
 }
 
-/** The first frame in some bytes: its kind, whether it is the last of its message, what it holds and what comes after it; null where it is not whole. */
+/**
+ * The first frame in some bytes: its kind, whether it is the last of its message, what it holds and what comes after it; null where it is
+ * not whole.
+ */
 function firstFrame(bytes) {
     if (bytes.length < 2) return null;
     const short = bytes[1] & 0x7f;
@@ -32,13 +35,20 @@ function firstFrame(bytes) {
     if (bytes.length < start) return null;
     const length = { 126: () => bytes.readUInt16BE(2), 127: () => Number(bytes.readBigUInt64BE(2)) }[short]?.() ?? short;
     if (bytes.length < start + length) return null;
-    return { kind: bytes[0] & 0x0f, isLast: bytes[0] >= 0x80, held: bytes.subarray(start, start + length), rest: bytes.subarray(start + length) };
+    return {
+        kind: bytes[0] & 0x0f, isLast: bytes[0] >= 0x80, held: bytes.subarray(start, start + length), rest: bytes.subarray(start + length),
+    };
 }
 
 /** Opens a socket at an address `ws://..`; each message that comes is told. Gives a function that sends one. */
 export function openSocket(address, told) {
     return new Promise((resolve, reject) => {
-        const headers = { Connection: "Upgrade", Upgrade: "websocket", "Sec-WebSocket-Version": "13", "Sec-WebSocket-Key": randomBytes(16).toString("base64") };
+        const headers = {
+            Connection: "Upgrade",
+            Upgrade: "websocket",
+            "Sec-WebSocket-Version": "13",
+            "Sec-WebSocket-Key": randomBytes(16).toString("base64"),
+        };
         const asked = request(address.replace(/^ws/, "http"), { headers });
         asked.on("error", reject).on("response", ({ statusCode }) => reject(new Error(`no socket at ${address}: ${statusCode}`)));
         asked.on("upgrade", (unused, socket, first) => {

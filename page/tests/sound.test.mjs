@@ -11,7 +11,9 @@ function madeUp() {
     const node = (fields) => ({ connect: (next) => next, start: (at) => at !== undefined && noted.strokes.push(at), ...fields });
     const context = {
         currentTime: 5, sampleRate: 1000, destination: {}, resume: () => noted.state.push("on"), suspend: () => noted.state.push("off"),
-        createOscillator: () => node({ frequency: param("frequency") }), createGain: () => node({ gain: param("gain") }), createBufferSource: () => node({ playbackRate: {} }),
+        createOscillator: () => node({ frequency: param("frequency") }),
+        createGain: () => node({ gain: param("gain") }),
+        createBufferSource: () => node({ playbackRate: {} }),
         createBuffer: (channels, length) => ({ getChannelData: () => new Float32Array(length) }),
     };
     return { noted, sound: new Sound(() => { noted.contexts += 1; return context; }) };
@@ -53,7 +55,11 @@ test("a return of the carriage is heard longer than a stroke, and ends with one"
 test("where a new line was printed last the carriage is heard in place of a stroke", () => {
     const heard = [];
     const laboratory = { printed: { count: 0, text: "" } };
-    const view = follow(laboratory, { strokes: (count) => heard.push(count), goBack: () => heard.push("back"), work: () => {} }, { playing: () => null, held: () => null, isFast: () => false });
+    const view = follow(
+        laboratory,
+        { strokes: (count) => heard.push(count), goBack: () => heard.push("back"), work: () => {} },
+        { playing: () => null, held: () => null, isFast: () => false }
+    );
     for (const [count, text] of [[1, "h"], [2, "h\n"], [2, "h\n"], [5, "h\nab\n"]]) {
         laboratory.printed = { count, text };
         view.show();
@@ -75,7 +81,9 @@ test("while the page is hidden nothing sounds, and the sound goes on when it is 
 test("at its own pace the hum swings as often as the drum turns, and an octave higher where that is faster; when the machine stops it ends", () => {
     const { noted, sound } = madeUp();
     let [pace, isFast] = ["own", true];
-    const view = follow({ printed: { count: 0, text: "" } }, sound, { playing: () => null, held: () => null, isFast: () => isFast, pace: () => pace });
+    const view = follow(
+        { printed: { count: 0, text: "" } }, sound, { playing: () => null, held: () => null, isFast: () => isFast, pace: () => pace }
+    );
     sound.switchTo(true);
     view.frame();
     pace = "fast";

@@ -1,4 +1,5 @@
-// A press of Step, with the module: how many lines it sends, what of them stays in the transcript, and whether what the page then shows is what the monitor says.
+// A press of Step, with the module: how many lines it sends, what of them stays in the transcript, and whether what the page then shows is
+// what the monitor says.
 import assert from "node:assert/strict";
 import { existsSync, readFileSync, readdirSync } from "node:fs";
 import { dirname, join } from "node:path";
@@ -13,7 +14,10 @@ const top = join(dirname(fileURLToPath(import.meta.url)), "../..");
 const module = join(top, "libraries/javascript/lgp_c_region.wasm");
 const skip = !existsSync(module);
 const exampleNamed = (name) => readFileSync(join(top, `examples/${name}.txt`), "utf8");
-const names = readdirSync(join(top, "examples"), { recursive: true }).map(String).filter((name) => name.endsWith(".txt")).map((name) => name.slice(0, -".txt".length));
+const names = readdirSync(join(top, "examples"), { recursive: true })
+    .map(String)
+    .filter((name) => name.endsWith(".txt"))
+    .map((name) => name.slice(0, -".txt".length));
 
 /** A laboratory over the module, and its link. */
 async function opened() {
@@ -40,7 +44,9 @@ test("a Step sends two lines, one more where it goes to another track or somethi
             const said = `${name}, step ${step}: ${lines.join("; ")}`;
             assert.equal(lines[0], "json trace-data 1", said);
             assert.match(lines[1], /^json look \d\d00 64 \d+$/, said);
-            assert.ok(lines.length <= 3 && lines.slice(2).every((line) => line === "paper" || /^json show-data \d\d00 64$/.test(line)), said);
+            assert.ok(
+                lines.length <= 3 && lines.slice(2).every((line) => line === "paper" || /^json show-data \d\d00 64$/.test(line)), said
+            );
             assert.equal(lines.includes("paper"), laboratory.accounts.at(-1).printed !== null, said);
             steps += 1;
         }
@@ -63,7 +69,9 @@ test("after twenty steps the transcript has the lines that set the machine up, a
 test("a Step after the costs of a word were asked, or the page has shown another part of the drum, asks no more", { skip }, async () => {
     const { link, laboratory } = await opened();
     await laboratory.openScript("self-modifying", exampleNamed("self-modifying"));
-    for (const action of [() => laboratory.askPlacing([]), () => laboratory.showAt("0500"), () => laboratory.why("0009"), () => laboratory.transcript()]) {
+    for (const action of [
+        () => laboratory.askPlacing([]), () => laboratory.showAt("0500"), () => laboratory.why("0009"), () => laboratory.transcript(),
+    ]) {
         await laboratory.step(3);
         await action();
         const lines = await sentBy(link, () => laboratory.step());
@@ -78,8 +86,11 @@ async function saidNow(laboratory, link) {
     const told = heldOf(await link.askAll([...addresses, ...track].map((address) => `json show-data ${address} 1`)));
     const shown = (word) => ({ address: word.address, digits: word.digits, order: word.order ?? `word ${word.digits}` });
     return {
-        words: told.slice(0, addresses.length).map(shown), track: told.slice(addresses.length).map(({ address, digits: text }) => ({ address, text })),
-        rules: rulesOf(await link.ask("json rules-data")), printed: paperOf(await link.ask("paper")), origins: originsOf(await link.askAll(addresses.map((address) => `json why-data ${address}`))),
+        words: told.slice(0, addresses.length).map(shown),
+        track: told.slice(addresses.length).map(({ address, digits: text }) => ({ address, text })),
+        rules: rulesOf(await link.ask("json rules-data")),
+        printed: paperOf(await link.ask("paper")),
+        origins: originsOf(await link.askAll(addresses.map((address) => `json why-data ${address}`))),
     };
 }
 
@@ -92,8 +103,12 @@ test("what the page shows after Steps is what the monitor says then, and so is t
             await laboratory.step(orders);
             const { origins, ...said } = await saidNow(laboratory, link);
             const { words, track, rules, printed } = laboratory;
-            assert.deepEqual({ words: words.map(({ address, digits, order }) => ({ address, digits, order })), track, rules, printed }, said, name);
-            for (const { address, origin } of words) if (origin !== null) assert.deepEqual(origin, origins.get(address), `${name}: ${address}`);
+            assert.deepEqual(
+                { words: words.map(({ address, digits, order }) => ({ address, digits, order })), track, rules, printed }, said, name
+            );
+            for (const { address, origin } of words) {
+                if (origin !== null) assert.deepEqual(origin, origins.get(address), `${name}: ${address}`);
+            }
         }
         const asked = await link.askAll(Array.from({ length: 64 }, (unused, track) => `numbers ${String(track).padStart(2, "0")}00 64`));
         assert.deepEqual(await laboratory.drum(), linesOf(asked).map((line) => line.split(" ")[1]), name);
@@ -102,7 +117,9 @@ test("what the page shows after Steps is what the monitor says then, and so is t
 
 test("a word that an order has changed has that order beside it, also where it was not shown then", { skip }, async () => {
     const { laboratory } = await opened();
-    await laboratory.say("put 0000 b 0003", "put 0001 h 0520", "put 0002 u 0510", "put 0003 = 4", "put 0510 h 0520", "put 0511 z", "press start");
+    await laboratory.say(
+        "put 0000 b 0003", "put 0001 h 0520", "put 0002 u 0510", "put 0003 = 4", "put 0510 h 0520", "put 0511 z", "press start"
+    );
     await laboratory.step(1);
     await laboratory.step(1);
     await laboratory.step(1);

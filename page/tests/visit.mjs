@@ -1,11 +1,14 @@
 // Visits the page: node visit.mjs laboratory.html [FOLDER FOR PICTURES]. Ends with 1 where something is not as it should be. The variable
-// ENGINE names the engine (chromium, firefox or webkit), and VISITS the visits, or `all`. Where it names none, Chromium makes all visits, and the
+// ENGINE names the engine (chromium, firefox or webkit), and VISITS the visits, or `all`. Where it names none, Chromium makes all visits,
+// and the
 // others those of main_visits.mjs.
 //
 // The page is opened from disk. A visitor of a museum sees the kiosk print; a class does what the first lesson says, and compares the
-// numbers of its tables with what the page shows; pupils do each lesson step by step, and solve tasks, and a visitor plays a game at the kiosk
+// numbers of its tables with what the page shows; pupils do each lesson step by step, and solve tasks, and a visitor plays a game at the
+// kiosk
 // (visits_lessons.mjs, visits_tasks.mjs, visits_game.mjs); a source with a fault is mended; a long run is measured; a browser that lacks
-// something is told; people who cannot see all, or have no mouse, reach all. After each visit the script that Save gives is run, and has to end
+// something is told; people who cannot see all, or have no mouse, reach all. After each visit the script that Save gives is run, and has to
+// end
 // where the visit did: by the module, and by the program that LAB names where it names one.
 import assert from "node:assert/strict";
 import { spawnSync } from "node:child_process";
@@ -60,14 +63,18 @@ const { Engine, without, left = [] } = ENGINES[process.env.ENGINE ?? "chromium"]
 // only Chromium's speed is asked for
 const LEAST_SPEED = Engine === Chromium ? Number(process.env.LEAST_SPEED ?? 10e6) : 0;
 const given = (name, otherwise) => Number(process.env[name] ?? otherwise);
-const [LEAST_PICTURES, LONGEST_TASK, LONGEST_STOP] = Engine === Chromium ? [given("LEAST_PICTURES", 30), given("LONGEST_TASK", 50), given("LONGEST_STOP", 100)] : [0, Infinity, Infinity];
+const [
+    LEAST_PICTURES, LONGEST_TASK, LONGEST_STOP
+] = Engine === Chromium ? [given("LEAST_PICTURES", 30), given("LONGEST_TASK", 50), given("LONGEST_STOP", 100)] : [0, Infinity, Infinity];
 const LARGEST_DRIFT = given("LARGEST_DRIFT", 0.05);
 
 const textOf = (browser, selector) => browser.value(`document.querySelector(${JSON.stringify(selector)})?.innerText ?? ""`);
 const settled = (browser) => browser.value("laboratoryOfPage().settled()");
 /** The commands that only ask, as the page has learnt them of the monitor. */
 const questionsOf = async (browser) => new Set(await browser.value("[...laboratoryOfPage().questions]"));
-const panelOf = (browser) => browser.value("(({ counter, accumulator, status, clock }) => ({ counter, accumulator, status, clock: String(clock) }))(laboratoryOfPage().panel)");
+const panelOf = (browser) => browser.value(
+    "(({ counter, accumulator, status, clock }) => ({ counter, accumulator, status, clock: String(clock) }))(laboratoryOfPage().panel)"
+);
 
 async function press(browser, selector) {
     await browser.press(selector);
@@ -88,10 +95,14 @@ async function moment(browser, name) {
 
 /** About has the notices of the repository, closed until they are wanted; the name of the document begins with that of the project. */
 async function noticesSeen(browser) {
-    const [isOpen, text, title] = await browser.value("(({ open }, { textContent }) => [open, textContent, document.title])(document.querySelector('#notices-of-all'), document.querySelector('#notices-of-all pre'))");
+    const [isOpen, text, title] = await browser.value(
+        "(({ open }, { textContent }) => [open, textContent, document.title])(document.querySelector('#notices-of-all'), document.querySelector('#notices-of-all pre'))"
+    );
     assert.deepEqual([isOpen, title.split(":")[0]], [false, "Condugwa"]);
     // each paragraph of the notices is there, those that several of them have once
-    const [shown, wanted] = [text, readFileSync(join(top, "NOTICES"), "utf8")].map((notices) => notices.split("\n\n").map((paragraph) => paragraph.replaceAll(/\s+/g, " ").trim()));
+    const [shown, wanted] = [text, readFileSync(join(top, "NOTICES"), "utf8")].map((notices) => (
+        notices.split("\n\n").map((paragraph) => paragraph.replaceAll(/\s+/g, " ").trim())
+    ));
     assert.deepEqual(new Set(shown.filter((paragraph) => !paragraph.startsWith("(The notice goes on as that of "))), new Set(wanted));
     await browser.press("#notices-of-all summary");
 }
@@ -130,18 +141,30 @@ const onTheDrum = (browser) => browser.value(`(() => {
     }).map((it) => it.textContent);
 })()`);
 
-/** The kiosk plays by itself, with captions, and fills its window. A visitor begins its story by a touch and goes on by its buttons to an end that asks; left alone, it begins anew. */
+/**
+ * The kiosk plays by itself, with captions, and fills its window. A visitor begins its story by a touch and goes on by its buttons to an
+ * end that asks; left alone, it begins anew.
+ */
 async function kiosk(browser) {
     await browser.open(`${address}?kiosk=message&offers=story,matches&lang=en&idle=4`);
     await browser.waitFor(isMoving);
     assert.match(await textOf(browser, ".kiosk-told"), /^Everything it knows is on this drum/);
-    await browser.waitFor("/^y \\d{4} has just rewritten another order: [a-z] \\d{4} has become/.test(document.querySelector('.kiosk-told').textContent)");
-    assert.equal(await browser.value("document.querySelector('.kiosk-told code').textContent === document.querySelector('.hub-order').textContent"), true);
+    await browser.waitFor(
+        "/^y \\d{4} has just rewritten another order: [a-z] \\d{4} has become/.test(document.querySelector('.kiosk-told').textContent)"
+    );
+    assert.equal(
+        await browser.value("document.querySelector('.kiosk-told code').textContent === document.querySelector('.hub-order').textContent"),
+        true
+    );
     const buttons = () => browser.value("[...document.querySelectorAll('.kiosk-bar button')].map((it) => it.textContent)");
     assert.deepEqual(await buttons(), ["Begin", "", "Take the last match", "Deutsch"]);
     for (const [width, height] of [[1920, 1080], [1024, 768], [768, 1024]]) {
         await browser.size(width, height);
-        assert.deepEqual([await outside(browser), await onTheDrum(browser), await browser.value("document.documentElement.scrollHeight <= innerHeight")], [[], [], true], `at ${width} by ${height}`);
+        assert.deepEqual(
+            [await outside(browser), await onTheDrum(browser), await browser.value("document.documentElement.scrollHeight <= innerHeight")],
+            [[], [], true],
+            `at ${width} by ${height}`
+        );
     }
     await browser.size(1500, 1250);
     await kioskStory(browser, buttons);
@@ -158,7 +181,9 @@ async function kioskStory(browser, buttons) {
     await press(browser, ".kiosk-told");
     await browser.waitFor("document.body.dataset.state === 'story' && laboratoryOfPage().history.behind === 1");
     assert.deepEqual(await buttons(), ["Back", "Next", "Once more", "To the start"]);
-    await browser.waitFor("/^b 0011 .*brings the word at 0011 into the accumulator\\. The drum had to turn \\d+ places to the order and \\d+ to the word/.test(document.querySelector('.kiosk-told').textContent)");
+    await browser.waitFor(
+        "/^b 0011 .*brings the word at 0011 into the accumulator\\. The drum had to turn \\d+ places to the order and \\d+ to the word/.test(document.querySelector('.kiosk-told').textContent)"
+    );
     for (let order = 2; order <= 8; order += 1) {
         await press(browser, "#kiosk-2");
         await browser.waitFor(`laboratoryOfPage().history.behind === ${order}`);
@@ -177,11 +202,16 @@ async function kioskStory(browser, buttons) {
     await browser.waitFor("document.body.dataset.state === 'end' && laboratoryOfPage().panel.status === 'halted stop'");
     await settled(browser);
     assert.equal((await textOf(browser, ".paper")).trim(), "good day");
-    await browser.waitFor("/^It has printed “good day”\\. The machine performed 77 orders in 120\\.7 turns of its drum\\..* Could it be faster\\?/.test(document.querySelector('.kiosk-told').textContent)");
+    await browser.waitFor(
+        "/^It has printed “good day”\\. The machine performed 77 orders in 120\\.7 turns of its drum\\..* Could it be faster\\?/.test(document.querySelector('.kiosk-told').textContent)"
+    );
     assert.deepEqual(await buttons(), ["Once more", "", "Take the last match", "Deutsch"]);
 }
 
-/** What an address names and is not there is told, whatever its name; and so is that a program waits for keys, which the kiosk does not have. */
+/**
+ * What an address names and is not there is told, whatever its name; and so is that a program waits for keys, which the kiosk does not
+ * have.
+ */
 async function addresses(browser) {
     for (const name of ["nonesuch", "constructor", "__proto__", "toString"]) {
         await browser.open(`${address}?lang=${name}#${name}`);
@@ -219,12 +249,16 @@ async function changes(browser) {
     await steps(browser, 4);
     const row = () => textOf(browser, "tr[data-address='0009']");
     assert.match(await row(), /changed by y 0009 at 0005, clock 181/);
-    assert.equal(await browser.value("document.querySelector('.arrow') !== null && document.querySelectorAll('.rows > *').length > 0"), true);
+    assert.equal(
+        await browser.value("document.querySelector('.arrow') !== null && document.querySelectorAll('.rows > *').length > 0"), true
+    );
     assert.equal(await hasTrail(browser), true);
     await browser.value("laboratoryOfPage().run(12)");
     assert.equal(await hasTrail(browser), true);
     assert.match(await row(), /changed by y 0009 at 0013, clock (?!181)/);
-    assert.deepEqual(await browser.value("['.accounts tbody tr:not(.below)', '.rows > *'].map((it) => document.querySelectorAll(it).length)"), [12, 0]);
+    assert.deepEqual(
+        await browser.value("['.accounts tbody tr:not(.below)', '.rows > *'].map((it) => document.querySelectorAll(it).length)"), [12, 0]
+    );
     await browser.value("laboratoryOfPage().say('press manual', 'put 0009 a 0000')");
     assert.doesNotMatch(await row(), /changed/);
     await press(browser, "tr[data-address='0009'] button");
@@ -244,7 +278,9 @@ async function thereAndBack(browser) {
     for (let order = 0; order < 3; order += 1) await press(browser, "#step");
     const before = await panelOf(browser);
     const slideTo = async (place) => {
-        await browser.value(`(() => { const it = document.querySelector('.time input'); it.value = '${place}'; it.dispatchEvent(new Event('change')); })()`);
+        await browser.value(
+            `(() => { const it = document.querySelector('.time input'); it.value = '${place}'; it.dispatchEvent(new Event('change')); })()`
+        );
         await settled(browser);
         return textOf(browser, ".when output");
     };
@@ -259,7 +295,9 @@ async function openSource(browser) {
     await browser.open(`${address}?lang=en&door=work`);
     await type(browser, "put 0050 = 3");
     const typed = async (line) => {
-        await browser.value(`(() => { const form = document.querySelector('.lines form'); form.querySelector('input').value = ${JSON.stringify(line)}; form.requestSubmit(); })()`);
+        await browser.value(
+            `(() => { const form = document.querySelector('.lines form'); form.querySelector('input').value = ${JSON.stringify(line)}; form.requestSubmit(); })()`
+        );
         await settled(browser);
     };
     for (const line of ["source", " b 0050"]) await typed(line);
@@ -271,7 +309,10 @@ async function openSource(browser) {
     assert.equal(await browser.value("document.querySelector('dialog')"), null);
     await typed(" end 0000");
     await press(browser, "#open-source button");
-    assert.deepEqual(await browser.value("[document.querySelector('#open-source').hidden, document.activeElement.closest('.lines') !== null]"), [true, true]);
+    assert.deepEqual(
+        await browser.value("[document.querySelector('#open-source').hidden, document.activeElement.closest('.lines') !== null]"),
+        [true, true]
+    );
     await browser.waitFor("/No fault: 1 words, starts at 0000/.test(document.querySelector('.source .told').textContent)");
     assert.equal(await browser.written(), " b 0050\n end 0000");
     await browser.press("#save");
@@ -280,7 +321,10 @@ async function openSource(browser) {
     await browser.press("dialog > button");
 }
 
-/** The page says what to press: before a start, while the machine goes, where a mode or a key is wanted, and where a rule of an example has stopped a run. */
+/**
+ * The page says what to press: before a start, while the machine goes, where a mode or a key is wanted, and where a rule of an example has
+ * stopped a run.
+ */
 async function whatToPress(browser) {
     await browser.open(`${address}?lang=en&door=work`);
     const way = () => textOf(browser, ".way");
@@ -306,11 +350,18 @@ async function whatToPress(browser) {
     assert.match((await panelOf(browser)).status, /halted/);
 }
 
-/** Run halts where a program stops after a print. With the switch on it goes on to the end; in another language the switch is as it was, and it is seen in the whole laboratory alone. */
+/**
+ * Run halts where a program stops after a print. With the switch on it goes on to the end; in another language the switch is as it was, and
+ * it is seen in the whole laboratory alone.
+ */
 async function operated(browser) {
     await browser.open(`${address}?lang=en&door=work`);
     await started(browser, "put 0000 p =h", "put 0001 z", "put 0002 p =i", "put 0003 z", "put 0004 p =h", "put 0005 z");
-    const now = async () => [await textOf(browser, ".paper"), (await panelOf(browser)).counter, await browser.value("document.querySelector('#operated').checked")];
+    const now = async () => [
+        await textOf(browser, ".paper"),
+        (await panelOf(browser)).counter,
+        await browser.value("document.querySelector('#operated').checked"),
+    ];
     await press(browser, "#go-on");
     assert.deepEqual(await now(), ["h", "0002", false]);
     await press(browser, "#operated");
@@ -318,7 +369,9 @@ async function operated(browser) {
     assert.deepEqual(await now(), ["hih", "0007", true]);
     assert.equal(await textOf(browser, "#notice"), "");
     await picture(browser, "operated");
-    await browser.value("(() => { const it = document.getElementById('language'); it.value = 'de'; it.dispatchEvent(new Event('change')); })()");
+    await browser.value(
+        "(() => { const it = document.getElementById('language'); it.value = 'de'; it.dispatchEvent(new Event('change')); })()"
+    );
     assert.match(await textOf(browser, ".operated"), /^ ?Schnell startet die Maschine nach jedem Drucken wieder/);
     assert.deepEqual([await seenOf(browser, "#operated"), await now()], [["#operated"], ["hih", "0007", true]]);
     await press(browser, "[data-door-to='learn']");
@@ -331,12 +384,16 @@ function tableOf(...heading) {
     const begin = lines.findIndex((line) => line.startsWith(`| ${heading.join(" | ")} |`.replaceAll("|  |", "| |")));
     assert.ok(begin >= 0, heading.join(", "));
     const rows = lines.slice(begin + 2);
-    return rows.slice(0, rows.findIndex((line) => !line.startsWith("|"))).map((line) => line.split("|").slice(1, -1).map((cell) => cell.trim()));
+    return rows.slice(0, rows.findIndex((line) => !line.startsWith("|"))).map((line) => (
+        line.split("|").slice(1, -1).map((cell) => cell.trim())
+    ));
 }
 
 /** Types a line in the part for lines, as the first hour's class does. */
 async function type(browser, line) {
-    await browser.value(`(() => { const form = document.querySelector('.lines form'); form.querySelector('input').value = ${JSON.stringify(line)}; form.requestSubmit(); })()`);
+    await browser.value(
+        `(() => { const form = document.querySelector('.lines form'); form.querySelector('input').value = ${JSON.stringify(line)}; form.requestSubmit(); })()`
+    );
     await settled(browser);
     assert.equal(await browser.value("laboratoryOfPage().talk.at(-1).reply"), "ok\n", line);
 }
@@ -349,7 +406,9 @@ async function started(browser, ...lines) {
 }
 
 /** The cells of the account at the top: clock, at, order, find, take, seek, act, sum. */
-const told = (browser) => browser.value("[...document.querySelector('.accounts tbody tr').cells].slice(0, 8).map((cell) => cell.textContent)");
+const told = (browser) => (
+    browser.value("[...document.querySelector('.accounts tbody tr').cells].slice(0, 8).map((cell) => cell.textContent)")
+);
 const shownClock = (browser) => browser.value("document.querySelector('.panel dl dd:last-of-type').innerText.trim()");
 
 /** A class that has never programmed does what the first lesson says, and compares its tables with the page. */
@@ -392,7 +451,9 @@ async function nextLines(browser, holds, most = 30) {
 
 /** The household's loop, placed badly and well: a week is two lines of the script. */
 async function household(browser) {
-    await browser.value("(() => { const it = document.querySelector('#example'); it.value = 'drum/placed-badly-and-well'; it.dispatchEvent(new Event('change')); })()");
+    await browser.value(
+        "(() => { const it = document.querySelector('#example'); it.value = 'drum/placed-badly-and-well'; it.dispatchEvent(new Event('change')); })()"
+    );
     await settled(browser);
     const [before, behind, times, turns] = tableOf("", "placed badly").map((row) => row.slice(1));
     for (const at of [0, 1]) {
@@ -448,7 +509,9 @@ async function lesson(browser) {
     await steps(browser, 1);
     assert.equal((await panelOf(browser)).clock, "274");
     await browser.value("laboratoryOfPage().step(20)");
-    await browser.value("(() => { const it = document.querySelector('.time input'); it.value = '10'; it.dispatchEvent(new Event('change')); })()");
+    await browser.value(
+        "(() => { const it = document.querySelector('.time input'); it.value = '10'; it.dispatchEvent(new Event('change')); })()"
+    );
     await settled(browser);
     assert.equal(await browser.value("laboratoryOfPage().history.behind"), 10);
     await browser.value("laboratoryOfPage().forward(9)");
@@ -459,7 +522,10 @@ async function lesson(browser) {
     assert.equal(await browser.value("laboratoryOfPage().talk.at(-1).reply"), "0025 00000014\n");
 }
 
-/** The story of an order as the page shows it: its sentence, the widths of the bar's parts in word times, how far they are filled, and the phases' numbers. */
+/**
+ * The story of an order as the page shows it: its sentence, the widths of the bar's parts in word times, how far they are filled, and the
+ * phases' numbers.
+ */
 const story = (browser) => browser.value(`(() => {
     const pieces = [...document.querySelectorAll(".order-bar .piece")];
     return {
@@ -468,7 +534,10 @@ const story = (browser) => browser.value(`(() => {
     };
 })()`);
 
-/** Steps one order, and gives what the page shows at each picture while it is played, and at its end. The page's own pictures count: a slow browser may not show one of them. */
+/**
+ * Steps one order, and gives what the page shows at each picture while it is played, and at its end. The page's own pictures count: a slow
+ * browser may not show one of them.
+ */
 const watched = (browser, shown) => browser.value(`new Promise((resolve) => {
     const [seen, box] = [[], document.querySelector(".drum-box")];
     const pictures = new MutationObserver(() => {
@@ -482,7 +551,10 @@ const watched = (browser, shown) => browser.value(`new Promise((resolve) => {
     document.querySelector("#step").click();
 })`);
 
-/** From now on `markedCells` has each cell of the drum that was marked as written: a mark stands for a moment only, which may be shorter than a picture on a slow machine. */
+/**
+ * From now on `markedCells` has each cell of the drum that was marked as written: a mark stands for a moment only, which may be shorter
+ * than a picture on a slow machine.
+ */
 const noteMarks = (browser) => browser.value(`(() => {
     window.markedCells = new Set();
     const wasMarked = ({ oldValue }) => (oldValue ?? "").split(" ").includes("written");
@@ -490,17 +562,29 @@ const noteMarks = (browser) => browser.value(`(() => {
     new MutationObserver(note).observe(document.querySelector(".ring"), { subtree: true, attributeOldValue: true, attributeFilter: ["class"] });
 })()`);
 
-/** Each order is told by a sentence and a bar that fills; what it writes or prints is seen when it has done so, and that the program has changed itself is told for three orders. */
+/**
+ * Each order is told by a sentence and a bar that fills; what it writes or prints is seen when it has done so, and that the program has
+ * changed itself is told for three orders.
+ */
 async function stories(browser) {
     await browser.open(`${address}?lang=en#self-modifying`);
     await steps(browser, 3);
     assert.deepEqual(await story(browser), {
-        says: "b 0020 brings the word at 0020 into the accumulator. The drum had to turn 24 places to the order and 15 to the word.", phases: [24, 1, 15, 1],
-        bar: [["find wait", 23], ["find work", 1], ["take work", 1], ["seek wait", 14], ["seek work", 1], ["act work", 1]], filled: [1, 1, 1, 1, 1, 1],
+        says: "b 0020 brings the word at 0020 into the accumulator. The drum had to turn 24 places to the order and 15 to the word.",
+        phases: [24, 1, 15, 1],
+        bar: [["find wait", 23], ["find work", 1], ["take work", 1], ["seek wait", 14], ["seek work", 1], ["act work", 1]],
+        filled: [1, 1, 1, 1, 1, 1],
     });
     await noteMarks(browser);
-    const seen = await watched(browser, "[document.querySelector(\"tr[data-address='0009'] td:nth-of-type(4) code\").textContent, document.querySelector('.rewritten').textContent, markedCells.size]");
-    const [before, rewritten] = ["r 0017 at 0000 turned u 0000 at 0017 into u 0002", "y 0009 at 0005 turned a 0000 at 0009 into a 0100"].map((what) => `The program has rewritten itself: ${what}.`);
+    const seen = await watched(
+        browser,
+        "[document.querySelector(\"tr[data-address='0009'] td:nth-of-type(4) code\").textContent, document.querySelector('.rewritten').textContent, markedCells.size]"
+    );
+    const [before, rewritten] = [
+        "r 0017 at 0000 turned u 0000 at 0017 into u 0002", "y 0009 at 0005 turned a 0000 at 0009 into a 0100",
+    ].map(
+        (what) => `The program has rewritten itself: ${what}.`
+    );
     assert.deepEqual(seen.slice(0, -1).filter(([order, told, marks]) => order !== "a 0000" || told !== before || marks !== 0), []);
     assert.deepEqual(seen.at(-1), ["a 0100", rewritten, 1]);
     const toldNow = () => textOf(browser, ".rewritten");
@@ -509,30 +593,43 @@ async function stories(browser) {
     assert.equal(await toldNow(), rewritten);
     await steps(browser, 1);
     assert.equal(await toldNow(), "");
-    assert.deepEqual(await browser.value("[document.querySelector('.timeline').dataset.bars, document.querySelector('.clock-turn').textContent]"), ["ftsarftsaftsaftsarftsaftsaftsa", `clock 473 · turn 7.4`]);
+    assert.deepEqual(
+        await browser.value("[document.querySelector('.timeline').dataset.bars, document.querySelector('.clock-turn').textContent]"),
+        ["ftsarftsaftsaftsarftsaftsaftsa", `clock 473 · turn 7.4`]
+    );
     assert.match(await textOf(browser, "tr[data-address='0006']"), /bring zero/);
     await started(browser, "put 0000 p =h", "put 0001 z 0000");
-    const printed = await watched(browser, "[document.querySelector('.paper').textContent, document.querySelector('.piece.act i').style.transform]");
+    const printed = await watched(
+        browser, "[document.querySelector('.paper').textContent, document.querySelector('.piece.act i').style.transform]"
+    );
     assert.deepEqual([...new Set(printed.slice(0, -1).map(([paper]) => paper))], [""]);
     assert.deepEqual(printed.at(-1), ["h", "scaleX(1)"]);
-    assert.match((await story(browser)).says, /^p 4900 types the character h\. The drum had to turn \d+ places to the order; it needs no word\.$/);
+    assert.match(
+        (await story(browser)).says, /^p 4900 types the character h\. The drum had to turn \d+ places to the order; it needs no word\.$/
+    );
     await steps(browser, 1);
     assert.match((await story(browser)).says, /^z 0000 stops the machine\./);
 }
 
 /** What the oscilloscope shows: the bits of its three traces, and the digits beside them. */
-const TRACES = "[[...document.querySelectorAll('.scope canvas')].map((it) => it.dataset.bits), [...document.querySelectorAll('.trace-value code')].map((it) => it.textContent)]";
+const TRACES =
+    "[[...document.querySelectorAll('.scope canvas')].map((it) => it.dataset.bits), [...document.querySelectorAll('.trace-value code')].map((it) => it.textContent)]";
 
 /** The bits of what a panel shows, each address as the twelve bits that it has in an order. */
 const tracesOf = ({ counter, register, accumulator }) => {
     const address = 64 * Number(counter.slice(0, 2)) + Number(counter.slice(2));
-    return [[address.toString(2).padStart(12, "0"), ...[register, accumulator].map((digits) => bitsOf(digits).join(""))], [counter, register, accumulator]];
+    return [
+        [address.toString(2).padStart(12, "0"), ...[register, accumulator].map((digits) => bitsOf(digits).join(""))],
+        [counter, register, accumulator],
+    ];
 };
 
 /** The oscilloscope shows at rest what the panel says, and while an order is played what the registers hold by then. */
 async function scope(browser) {
     await browser.open(`${address}?lang=en#self-modifying`);
-    const registers = () => browser.value("(({ counter, register, accumulator }) => ({ counter, register, accumulator }))(laboratoryOfPage().panel)");
+    const registers = () => (
+        browser.value("(({ counter, register, accumulator }) => ({ counter, register, accumulator }))(laboratoryOfPage().panel)")
+    );
     const shown = async () => {
         await browser.value("new Promise((resolve) => requestAnimationFrame(() => requestAnimationFrame(resolve)))");
         return browser.value(TRACES);
@@ -541,17 +638,29 @@ async function scope(browser) {
     await steps(browser, 2);
     const before = await registers();
     assert.deepEqual(await shown(), tracesOf(before));
-    const seen = await watched(browser, "[document.querySelector('.fixed').dataset.phase, [...document.querySelectorAll('.trace-value code')].map((it) => it.textContent).join(' ')]");
+    const seen = await watched(
+        browser,
+        "[document.querySelector('.fixed').dataset.phase, [...document.querySelectorAll('.trace-value code')].map((it) => it.textContent).join(' ')]"
+    );
     const after = await registers();
-    const places = new Map([["find", before], ["seek", { ...after, accumulator: before.accumulator }]].map(([phase, { counter, register, accumulator }]) => [phase, `${counter} ${register} ${accumulator}`]));
+    const places = new Map(
+        [["find", before], ["seek", { ...after, accumulator: before.accumulator }]].map(
+            ([phase, { counter, register, accumulator }]) => [phase, `${counter} ${register} ${accumulator}`]
+        )
+    );
     for (const [phase, digits] of seen.filter(([name]) => places.has(name))) assert.equal(digits, places.get(phase), phase);
     // a picture falls into each phase where pictures are drawn fast enough
     if (LEAST_PICTURES > 0) assert.ok(["find", "seek"].every((phase) => seen.some(([name]) => name === phase)));
     assert.notEqual(before.accumulator, after.accumulator);
     assert.deepEqual(await shown(), tracesOf(after));
-    assert.equal(await browser.value("document.querySelector('.scope').getAttribute('aria-label')"), `Oscilloscope: counter ${after.counter}, instruction register ${after.register}, accumulator ${after.accumulator}.`);
+    assert.equal(
+        await browser.value("document.querySelector('.scope').getAttribute('aria-label')"),
+        `Oscilloscope: counter ${after.counter}, instruction register ${after.register}, accumulator ${after.accumulator}.`
+    );
     await press(browser, ".console button[data-name='bp8']");
-    const lit = await browser.value("[...document.querySelectorAll('.square.lit, .lever[aria-checked=true]')].map((it) => it.dataset.name)");
+    const lit = await browser.value(
+        "[...document.querySelectorAll('.square.lit, .lever[aria-checked=true]')].map((it) => it.dataset.name)"
+    );
     assert.deepEqual(lit, ["normal", "start", "bp8"]);
     await stage(browser);
 }
@@ -569,10 +678,16 @@ async function stage(browser) {
 }
 
 const wordAt = (browser, place) => browser.value(`laboratoryOfPage().words.find(({ address }) => address === "${place}").order`);
-const seenOf = (browser, ...selectors) => browser.value(`${JSON.stringify(selectors)}.filter((it) => document.querySelector(it)?.checkVisibility())`);
-const doorNow = (browser) => browser.value("[new URLSearchParams(location.search).get('door'), document.querySelector('.doors [aria-current]')?.textContent ?? null]");
+const seenOf = (browser, ...selectors) => (
+    browser.value(`${JSON.stringify(selectors)}.filter((it) => document.querySelector(it)?.checkVisibility())`)
+);
+const doorNow = (browser) => browser.value(
+    "[new URLSearchParams(location.search).get('door'), document.querySelector('.doors [aria-current]')?.textContent ?? null]"
+);
 
-/** The hall: its drum turns until it is stopped; each door shows what is its own, stands in the address, and leaves the machine as it is. */
+/**
+ * The hall: its drum turns until it is stopped; each door shows what is its own, stands in the address, and leaves the machine as it is.
+ */
 async function doors(browser) {
     await browser.size(1440, 900);
     await browser.open(`${address}?lang=en`);
@@ -580,16 +695,32 @@ async function doors(browser) {
     await browser.waitFor("document.querySelector('.fixed').dataset.phase === 'seek'");
     await moment(browser, "hall");
     assert.deepEqual(await seenOf(browser, ".hall", ".desk", ".flexowriter", ".pace", ".telling", ".source"), [".hall"]);
-    assert.deepEqual([await browser.value("document.querySelectorAll('.hall a > svg').length"), ...await hiddenTexts(browser), ...await unhit(browser)], [3]);
+    assert.deepEqual(
+        [await browser.value("document.querySelectorAll('.hall a > svg').length"), ...await hiddenTexts(browser), ...await unhit(browser)],
+        [3]
+    );
     assert.equal(await textOf(browser, "#hall-stop"), "Stop");
     await press(browser, "#hall-stop");
-    assert.deepEqual([await browser.value(isMoving), await textOf(browser, "#hall-stop"), (await panelOf(browser)).status], [false, "Let it turn", "going"]);
+    assert.deepEqual(
+        [await browser.value(isMoving), await textOf(browser, "#hall-stop"), (await panelOf(browser)).status],
+        [false, "Let it turn", "going"]
+    );
     const before = { counter: "0000", accumulator: "00000000", status: "halted operator", clock: "0" };
-    const shown = { look: [".tales"], learn: [".lesson", ".listing form"], work: [".flexo-body", ".telling-order", ".source", "#run-program", ".listing form"] };
+    const shown = {
+        look: [".tales"],
+        learn: [".lesson", ".listing form"],
+        work: [".flexo-body", ".telling-order", ".source", "#run-program", ".listing form"],
+    };
     // from each door to each other one
     for (const door of ["work", "look", "work", "learn", "look", "learn", "work"]) {
         await press(browser, `.doors [data-door-to="${door}"]`);
-        assert.deepEqual(await seenOf(browser, ".hall", ".tales", ".lesson", ".flexo-body", ".telling-order", ".source", "#run-program", ".listing form"), shown[door], door);
+        assert.deepEqual(
+            await seenOf(
+                browser, ".hall", ".tales", ".lesson", ".flexo-body", ".telling-order", ".source", "#run-program", ".listing form"
+            ),
+            shown[door],
+            door
+        );
         const parts = [".scope", ".words-table", ".drum-box", ...(door === "look" ? [] : [".console", ".paper", ".pace"])];
         assert.deepEqual(await seenOf(browser, ".scope", ".words-table", ".drum-box", ".console", ".paper", ".pace"), parts, door);
         assert.deepEqual(await doorNow(browser), [door, door[0].toUpperCase() + door.slice(1)]);
@@ -607,8 +738,16 @@ async function look(browser) {
     await browser.open(`${address}?lang=en&door=look`);
     await browser.waitFor("/^The drum turns, and the head stands still\\./.test(document.querySelector('.caption').textContent)");
     const isReady = "document.querySelector('.caption').getAttribute('aria-busy') === 'false'";
-    const tale = async (name) => { await press(browser, `[data-tale="${name}"]`); await browser.waitFor(`document.querySelector('.caption-at').textContent === '1 of 5' && ${isReady}`); await settled(browser); };
-    const caption = async (at, selector = "#caption-next") => { await press(browser, selector); await browser.waitFor(`document.querySelector('.caption-at').textContent === '${at} of 5' && ${isReady}`); await settled(browser); };
+    const tale = async (name) => {
+        await press(browser, `[data-tale="${name}"]`);
+        await browser.waitFor(`document.querySelector('.caption-at').textContent === '1 of 5' && ${isReady}`);
+        await settled(browser);
+    };
+    const caption = async (at, selector = "#caption-next") => {
+        await press(browser, selector);
+        await browser.waitFor(`document.querySelector('.caption-at').textContent === '${at} of 5' && ${isReady}`);
+        await settled(browser);
+    };
     await tale("rewrite");
     assert.deepEqual([await wordAt(browser, "0009"), (await panelOf(browser)).counter], ["a 0100", "0011"]);
     for (const at of [2, 3, 4]) await caption(at);
@@ -641,9 +780,15 @@ async function sound(browser) {
             createOscillator() { const made = super.createOscillator(); const { frequency } = made; const set = frequency.setTargetAtTime.bind(frequency); frequency.setTargetAtTime = (...all) => { heard.hum.push(all[0]); return set(...all); }; return made; }
         };
     })()`);
-    await started(browser, "put 0000 p =h", "put 0001 p =i", "put 0002 b 0034", "put 0003 b 0034", "put 0004 b 0034", "put 0005 p =h", "put 0006 z 0000");
+    await started(
+        browser, "put 0000 p =h", "put 0001 p =i", "put 0002 b 0034", "put 0003 b 0034", "put 0004 b 0034", "put 0005 p =h",
+        "put 0006 z 0000"
+    );
     await steps(browser, 1);
-    assert.deepEqual([await browser.value("heard"), await browser.value("document.querySelector('#sound').getAttribute('aria-pressed')")], [{ contexts: 0, strokes: 0, hum: [] }, "false"]);
+    assert.deepEqual(
+        [await browser.value("heard"), await browser.value("document.querySelector('#sound').getAttribute('aria-pressed')")],
+        [{ contexts: 0, strokes: 0, hum: [] }, "false"]
+    );
     await press(browser, "#sound");
     await press(browser, "#step");
     assert.deepEqual(await browser.value("[heard.contexts, heard.strokes]"), [1, 0]);
@@ -688,14 +833,24 @@ const drop = (browser, name, text) => browser.value(`(async () => {
     return event.defaultPrevented;
 })()`);
 
-/** Work is not lost: lines are pasted as lines and come back by keys, a saved file and a link are opened again, and so is the last session, but not at the kiosk. */
+/**
+ * Work is not lost: lines are pasted as lines and come back by keys, a saved file and a link are opened again, and so is the last session,
+ * but not at the kiosk.
+ */
 async function notLost(browser) {
     await browser.open(`${address}?lang=en&door=work`);
     const input = "document.querySelector('.lines input')";
-    await browser.value(`${input}.dispatchEvent(Object.assign(new Event("paste", { cancelable: true }), { clipboardData: { getData: () => "put 0000 b 0003\\nput 0003 = 4\\r\\npress start\\nrun" } }))`);
+    await browser.value(
+        `${input}.dispatchEvent(Object.assign(new Event("paste", { cancelable: true }), { clipboardData: { getData: () => "put 0000 b 0003\\nput 0003 = 4\\r\\npress start\\nrun" } }))`
+    );
     await settled(browser);
-    assert.deepEqual(await browser.value(`[laboratoryOfPage().talk.map(({ line }) => line), ${input}.value]`), [["put 0000 b 0003", "put 0003 = 4", "press start"], "run"]);
-    const keys = await browser.value(`["ArrowUp", "ArrowUp", "ArrowDown", "ArrowDown"].map((key) => { ${input}.dispatchEvent(new KeyboardEvent("keydown", { key, cancelable: true })); return ${input}.value; })`);
+    assert.deepEqual(
+        await browser.value(`[laboratoryOfPage().talk.map(({ line }) => line), ${input}.value]`),
+        [["put 0000 b 0003", "put 0003 = 4", "press start"], "run"]
+    );
+    const keys = await browser.value(
+        `["ArrowUp", "ArrowUp", "ArrowDown", "ArrowDown"].map((key) => { ${input}.dispatchEvent(new KeyboardEvent("keydown", { key, cancelable: true })); return ${input}.value; })`
+    );
     assert.deepEqual(keys, ["press start", "put 0003 = 4", "press start", "run"]);
     await press(browser, "#step");
     const before = await panelOf(browser);
@@ -704,9 +859,14 @@ async function notLost(browser) {
     const [script, link] = await browser.value("[document.querySelector('.transcript').textContent, document.querySelector('#link').href]");
     await browser.press("dialog > button");
     await drop(browser, "picture.png", "\0\x01");
-    assert.deepEqual([await textOf(browser, "#notice"), await panelOf(browser)], ["picture.png is not a text file. Nothing was done.", before]);
+    assert.deepEqual(
+        [await textOf(browser, "#notice"), await panelOf(browser)], ["picture.png is not a text file. Nothing was done.", before]
+    );
     await drop(browser, "letter.txt", "Dear Sir,\n");
-    assert.deepEqual([await textOf(browser, "#notice"), await panelOf(browser)], ["letter.txt does not begin with a monitor command, so it is not a script. Nothing was done.", before]);
+    assert.deepEqual(
+        [await textOf(browser, "#notice"), await panelOf(browser)],
+        ["letter.txt does not begin with a monitor command, so it is not a script. Nothing was done.", before]
+    );
     await press(browser, ".choices button");
     assert.equal(await drop(browser, "laboratory.txt", script), true);
     assert.deepEqual(await panelOf(browser), before);
@@ -717,7 +877,10 @@ async function notLost(browser) {
     await browser.open(`${address}?lang=en`);
     assert.match(await textOf(browser, "#kept"), /^Your last session was saved in this browser: Open it again Forget it$/);
     await press(browser, "#kept button:nth-of-type(1)");
-    assert.deepEqual([await panelOf(browser), await browser.value("[document.querySelector('#kept').hidden, document.body.dataset.door]")], [left, [true, "work"]]);
+    assert.deepEqual(
+        [await panelOf(browser), await browser.value("[document.querySelector('#kept').hidden, document.body.dataset.door]")],
+        [left, [true, "work"]]
+    );
     await browser.open(`${address}?lang=en&door=learn`);
     const works = async () => {
         await browser.press("#works");
@@ -728,7 +891,10 @@ async function notLost(browser) {
     };
     const kept = await works();
     await press(browser, "#kept button:nth-of-type(2)");
-    assert.deepEqual([...await browser.value("[document.querySelector('#kept').hidden, document.activeElement !== document.body]"), await works()], [true, true, kept - 1]);
+    assert.deepEqual(
+        [...await browser.value("[document.querySelector('#kept').hidden, document.activeElement !== document.body]"), await works()],
+        [true, true, kept - 1]
+    );
     await browser.open(link);
     assert.deepEqual([await wordAt(browser, "0000"), (await panelOf(browser)).status], ["b 0003", "going"]);
 }
@@ -736,17 +902,26 @@ async function notLost(browser) {
 /** A source with a fault, mended, loaded and run, and its profile. */
 async function source(browser) {
     await browser.open(`${address}?lang=en&door=work`);
-    const faulty = "start   b one       ; take\n        a tow       ; no line has this label\n        h sum\n        z\none     word 00000002\ntwo     word 00000004\nsum     word 00000000\n        end start";
+    const faulty =
+        "start   b one       ; take\n        a tow       ; no line has this label\n        h sum\n        z\none     word 00000002\ntwo     word 00000004\nsum     word 00000000\n        end start";
     const write = (text) => browser.write(text);
     const told = (pattern) => browser.waitFor(`${pattern}.test(document.querySelector('.source .told').textContent)`);
     await write(faulty);
     await told(/^Line 2: tow – no line has that label; perhaps two\.$/);
-    assert.deepEqual(await browser.value("['.fault .CodeMirror-linenumber', '.wave', '.place'].map((it) => [...document.querySelectorAll('.source ' + it)].map((node) => node.textContent))"), [["2"], ["tow"], ["0000 00010010", "0002 000j0018", "0003 00000000", "0004 00000002", "0005 00000004", "0006 00000000"]]);
+    assert.deepEqual(
+        await browser.value(
+            "['.fault .CodeMirror-linenumber', '.wave', '.place'].map((it) => [...document.querySelectorAll('.source ' + it)].map((node) => node.textContent))"
+        ),
+        [["2"], ["tow"], ["0000 00010010", "0002 000j0018", "0003 00000000", "0004 00000002", "0005 00000004", "0006 00000000"]]
+    );
     await browser.value("document.querySelector('.source').scrollIntoView({ block: 'center' })");
     await picture(browser, "fault");
     await write(faulty.replace("tow", "two"));
     await told(/^No fault: 7 words, starts at 0000\.$/);
-    assert.deepEqual(await browser.value("[...document.querySelectorAll('.source .place')].map((node) => node.textContent)"), ["0000 00010010", "0001 000q0014", "0002 000j0018", "0003 00000000", "0004 00000002", "0005 00000004", "0006 00000000"]);
+    assert.deepEqual(
+        await browser.value("[...document.querySelectorAll('.source .place')].map((node) => node.textContent)"),
+        ["0000 00010010", "0001 000q0014", "0002 000j0018", "0003 00000000", "0004 00000002", "0005 00000004", "0006 00000000"]
+    );
     await press(browser, "#load");
     await press(browser, "#go-on");
     const digitsAt = (place) => browser.value(`laboratoryOfPage().words.find(({ address }) => address === '${place}').digits`);
@@ -782,7 +957,10 @@ const ringOf = (browser) => browser.value(`(() => {
     return { told: document.querySelector(".costs-told").innerText, bars: document.querySelectorAll(".ring-of-costs .cost").length, marks, rows: document.querySelectorAll(".costs tbody tr").length };
 })()`);
 
-/** After a run a word that is pressed shows what it would have cost in each sector, as a ring on the drum, in a sentence and in a table; the machine is where it was. */
+/**
+ * After a run a word that is pressed shows what it would have cost in each sector, as a ring on the drum, in a sentence and in a table; the
+ * machine is where it was.
+ */
 async function costs(browser) {
     await browser.open(`${address}?lang=en#drum/household`);
     const ask = async (place) => {
@@ -790,22 +968,43 @@ async function costs(browser) {
         await press(browser, `tr[data-address="${place}"] button`);
         return ringOf(browser);
     };
-    assert.deepEqual(await ask("0128"), { told: "There is nothing to show: no order has been performed since the operator last did something.\nThe monitor says: no order waited for it or stood there, so its sector makes no difference", bars: 0, marks: [null, null], rows: 0 });
+    assert.deepEqual(
+        await ask("0128"),
+        {
+            told: "There is nothing to show: no order has been performed since the operator last did something.\nThe monitor says: no order waited for it or stood there, so its sector makes no difference",
+            bars: 0,
+            marks: [null, null],
+            rows: 0,
+        }
+    );
     await press(browser, "#go-on");
     const [before, transcript] = [await panelOf(browser), await browser.value("laboratoryOfPage().transcript()")];
     const wage = await ask("0128");
-    assert.equal(wage.told, "0128 wage is in sector 28. With it there, the last orders, 2,355 in all, took 150,629 word times; in sector 25 they would have taken 125,541, which is 25,088 fewer, and the word may be moved.");
+    assert.equal(
+        wage.told,
+        "0128 wage is in sector 28. With it there, the last orders, 2,355 in all, took 150,629 word times; in sector 25 they would have taken 125,541, which is 25,088 fewer, and the word may be moved."
+    );
     assert.deepEqual([wage.bars, wage.marks, wage.rows], [64, ["28", "25"], 64]);
-    assert.deepEqual([await panelOf(browser), (await browser.value("laboratoryOfPage().transcript()")).startsWith(transcript)], [before, true]);
+    assert.deepEqual(
+        [await panelOf(browser), (await browser.value("laboratoryOfPage().transcript()")).startsWith(transcript)], [before, true]
+    );
     await ringIsOnItsSectors(browser);
     await browser.reveal(".costs");
     await picture(browser, "costs");
-    assert.match((await ask("0110")).told, /^0110 week is an order of the program and must stay\. None of the last orders, .* waited for it as a word\.\nThe monitor says: it should not be moved/);
+    assert.match(
+        (await ask("0110")).told,
+        /^0110 week is an order of the program and must stay\. None of the last orders, .* waited for it as a word\.\nThe monitor says: it should not be moved/
+    );
     assert.deepEqual((await ask("0127")).marks, ["27", "15"]);
     await browser.value("document.querySelector('.costs summary').click()");
-    assert.deepEqual(await browser.value("[...document.querySelectorAll('.costs tr:is(.own, .best)')].map((it) => it.innerText.replace(/\\s+/g, ' '))"), ["15 150,565 the best sector", "27 150,629 its sector"]);
+    assert.deepEqual(
+        await browser.value("[...document.querySelectorAll('.costs tr:is(.own, .best)')].map((it) => it.innerText.replace(/\\s+/g, ' '))"),
+        ["15 150,565 the best sector", "27 150,629 its sector"]
+    );
     await press(browser, "#back");
-    assert.deepEqual([(await ringOf(browser)).bars, await browser.value("document.querySelectorAll('.drum :is(.grip, .stems path)').length")], [0, 0]);
+    assert.deepEqual(
+        [(await ringOf(browser)).bars, await browser.value("document.querySelectorAll('.drum :is(.grip, .stems path)').length")], [0, 0]
+    );
     await browser.value("laboratoryOfPage().say('optimum 5 0131')");
     assert.match((await ringOf(browser)).told, /^The last orders, 1 in all, took 9 word times, .* with 0131 coal anywhere else/);
 }
@@ -825,7 +1024,9 @@ async function ringIsOnItsSectors(browser) {
 /** A loop without end runs fast, and can be stopped. */
 async function longRun(browser) {
     await browser.open(`${address}?lang=en&door=work`);
-    await browser.value("laboratoryOfPage().say('put 0000 b 0010', 'put 0001 a 0011', 'put 0002 h 0010', 'put 0003 u 0000', 'press start')");
+    await browser.value(
+        "laboratoryOfPage().say('put 0000 b 0010', 'put 0001 a 0011', 'put 0002 h 0010', 'put 0003 u 0000', 'press start')"
+    );
     await browser.press("#go-on");
     await new Promise((resolve) => setTimeout(resolve, 4000));
     await browser.press("#go-on");
@@ -897,13 +1098,17 @@ const noteSaid = (browser) => browser.value(`(() => {
     }));
 })()`);
 
-/** All that a page has said of a fast run belongs together: it is true of one moment each. The loop adds one to its sum by its third order. */
+/**
+ * All that a page has said of a fast run belongs together: it is true of one moment each. The loop adds one to its sum by its third order.
+ */
 function areTrue(said) {
     const [last, ...before] = said.toReversed();
     assert.ok(before.length > 3 && before[0].orders > before.at(-1).orders, `${before.length} looks at a fast run`);
     for (const { orders, counter, trace, hub, clock, sum, drum, way } of said) {
         assert.deepEqual([counter, trace, hub], [`000${orders % 4}`, `000${orders % 4}`, clock]);
-        assert.equal(parseInt([...sum].map((digit) => "0123456789fgjkqw".indexOf(digit).toString(16)).join(""), 16), 2 * Math.floor((orders + 1) / 4));
+        assert.equal(
+            parseInt([...sum].map((digit) => "0123456789fgjkqw".indexOf(digit).toString(16)).join(""), 16), 2 * Math.floor((orders + 1) / 4)
+        );
         if (way.startsWith("The machine goes on as fast as it can")) assert.match(drum, /turns too fast for its numbers to be read/);
     }
     assert.match(last.way, /^The machine is going: Step/);
@@ -925,7 +1130,9 @@ async function paces(browser) {
     const rate = await ownPace(browser);
     assert.ok(Math.abs(rate - 1) < LARGEST_DRIFT, `its own pace is ${rate} of the wall's clock`);
     heard.push(await stands(browser));
-    await browser.value("(globalThis.long = [], new PerformanceObserver((list) => long.push(...list.getEntries().map(({ duration }) => duration))).observe({ type: 'longtask' }))");
+    await browser.value(
+        "(globalThis.long = [], new PerformanceObserver((list) => long.push(...list.getEntries().map(({ duration }) => duration))).observe({ type: 'longtask' }))"
+    );
     await noteSaid(browser);
     await browser.go("fast");
     const fast = await pace(browser, 3000);
@@ -980,15 +1187,25 @@ async function endlessPrint(browser) {
     assert.match(await textOf(browser, "#notice"), /nothing new is started/);
     await browser.press("#notice button:nth-of-type(1)");
     await browser.waitFor("document.querySelector('dialog')");
-    assert.match(await textOf(browser, ".transcript"), /^put 0000 00083100\nput 0001 00081100\nput 0002 000f0000\npress start\nrun 20000\n/);
+    assert.match(
+        await textOf(browser, ".transcript"), /^put 0000 00083100\nput 0001 00081100\nput 0002 000f0000\npress start\nrun 20000\n/
+    );
     await browser.press("dialog > button");
-    await browser.value("(() => { const { Blob } = globalThis; globalThis.Blob = function (parts, options) { globalThis.linked = parts[0]; return new Blob(parts, options); }; })()");
+    await browser.value(
+        "(() => { const { Blob } = globalThis; globalThis.Blob = function (parts, options) { globalThis.linked = parts[0]; return new Blob(parts, options); }; })()"
+    );
     await press(browser, "#notice button:nth-of-type(2)");
-    assert.deepEqual([await textOf(browser, "#notice"), await textOf(browser, ".paper"), (await panelOf(browser)).clock], ["The laboratory before this one can still be saved: Save laboratory.txt Back to it", "", "0"]);
+    assert.deepEqual(
+        [await textOf(browser, "#notice"), await textOf(browser, ".paper"), (await panelOf(browser)).clock],
+        ["The laboratory before this one can still be saved: Save laboratory.txt Back to it", "", "0"]
+    );
     assert.match(await browser.value("globalThis.linked"), /^put 0000 00083100\nput 0001 00081100\n/);
 }
 
-/** Where lines have used up what memory there is, nothing more is begun. Where memory ends in spite of it, the lines are offered until they are put away. */
+/**
+ * Where lines have used up what memory there is, nothing more is begun. Where memory ends in spite of it, the lines are offered until they
+ * are put away.
+ */
 async function usedUp(browser) {
     const long = "Array(17000).fill('; ' + 'x'.repeat(4000))";
     await browser.open(`${address}?lang=en&door=work`);
@@ -1013,12 +1230,21 @@ async function forPeople(browser) {
     const dead = await browser.value("[...document.querySelectorAll('.console .dead')].map((it) => it.dataset.name).sort()");
     assert.deepEqual(dead, ["compute", "execute", "read"]);
     assert.match(await textOf(browser, "h1"), /bewiesen/);
-    const nameless = await browser.value("[...document.querySelectorAll('button, input, select, [role=textbox]')].filter((it) => !(it.textContent.trim() || it.getAttribute('aria-label') || it.closest('label')?.textContent.trim())).map((it) => it.outerHTML)");
+    const nameless = await browser.value(
+        "[...document.querySelectorAll('button, input, select, [role=textbox]')].filter((it) => !(it.textContent.trim() || it.getAttribute('aria-label') || it.closest('label')?.textContent.trim())).map((it) => it.outerHTML)"
+    );
     assert.deepEqual(nameless, []);
-    assert.equal(await browser.value("document.querySelectorAll('[id]').length === new Set([...document.querySelectorAll('[id]')].map((it) => it.id)).size"), true);
+    assert.equal(
+        await browser.value(
+            "document.querySelectorAll('[id]').length === new Set([...document.querySelectorAll('[id]')].map((it) => it.id)).size"
+        ),
+        true
+    );
     await browser.size(380, 800);
     assert.equal(await browser.value("document.documentElement.scrollWidth <= innerWidth"), true);
-    await browser.value("laboratoryOfPage().openScript('wide', '; ' + 'wide '.repeat(40) + '\\nput 0000 b 0050\\npress start\\nrun 1').then(() => laboratoryOfPage().step(1))");
+    await browser.value(
+        "laboratoryOfPage().openScript('wide', '; ' + 'wide '.repeat(40) + '\\nput 0000 b 0050\\npress start\\nrun 1').then(() => laboratoryOfPage().step(1))"
+    );
     await browser.value("laboratoryOfPage().say('; ' + 'x'.repeat(200))");
     for (const width of [380, 768, 1500]) {
         await browser.size(width, 1250);
@@ -1041,7 +1267,11 @@ async function widths(browser) {
         await browser.open(`${address}?lang=de&door=${door}`);
         for (const width of [390, 768, 1024, 1440, 1920]) {
             await browser.size(width, 900);
-            assert.deepEqual([await sideways(browser), await browser.value("document.documentElement.scrollWidth <= innerWidth")], [[], true], `${door} at ${width}`);
+            assert.deepEqual(
+                [await sideways(browser), await browser.value("document.documentElement.scrollWidth <= innerWidth")],
+                [[], true],
+                `${door} at ${width}`
+            );
         }
     }
     await browser.size(1500, 1250);
@@ -1051,7 +1281,10 @@ async function widths(browser) {
 const sideways = (browser) => browser.value(`[...document.querySelectorAll("#page *:not(.scroll, .editor *, select, input, .unseen, .word, .tales > .line)")]
     .filter((it) => it.scrollWidth > it.clientWidth + 1 && /auto|scroll|hidden/.test(getComputedStyle(it).overflowX)).map((it) => it.tagName + "." + it.className)`);
 
-/** A lamp that is lit stands out from what lies behind it, one that is not is empty, and each is wide enough within its edge to see which it is. */
+/**
+ * A lamp that is lit stands out from what lies behind it, one that is not is empty, and each is wide enough within its edge to see which it
+ * is.
+ */
 async function lamps(browser, where) {
     const [narrow, lit, filled] = await browser.value(`(() => {
         const all = [...document.querySelectorAll(".lamp")];
@@ -1112,7 +1345,13 @@ async function everyone(browser) {
         for (const door of ["hall", "look", "learn"]) {
             await openNoted(browser, `?door=${door}&lang=${language}`);
             if (door !== "hall") await press(browser, { look: "[data-tale='rewrite']", learn: "[data-lesson='rewriting']" }[door]);
-            await browser.waitFor({ hall: "true", look: "!document.querySelector('.caption-at').hidden", learn: "document.querySelector('.lesson .now') !== null" }[door]);
+            await browser.waitFor(
+                {
+                    hall: "true",
+                    look: "!document.querySelector('.caption-at').hidden",
+                    learn: "document.querySelector('.lesson .now') !== null",
+                }[door]
+            );
             if (door === "hall") await press(browser, "#hall-stop");
             assert.deepEqual(await troubles(browser), [], door);
         }
@@ -1127,7 +1366,9 @@ async function everyone(browser) {
 async function byKeys(browser) {
     await browser.open(`${address}?lang=en#self-modifying`);
     // Firefox 153 gives a page that is driven no focus, and then no key presses a button there
-    if (Engine === Firefox && !(await browser.value("document.hasFocus()"))) return "but not looked at, since this browser gives the page no focus";
+    if (Engine === Firefox && !(await browser.value("document.hasFocus()"))) {
+        return "but not looked at, since this browser gives the page no focus";
+    }
     const clock = async () => { await settled(browser); return (await panelOf(browser)).clock; };
     const clocks = [];
     for (const key of ["s", "s", "[", "]", "["]) {
@@ -1138,7 +1379,9 @@ async function byKeys(browser) {
     assert.notEqual(one, two);
     await browser.value("document.querySelector(`tr[data-address='0000'] button`).focus()");
     await browser.strike("Enter");
-    await browser.waitFor("/^0000 is an order of the program and must stay\\. None of the last orders, 1 in all,/.test(document.querySelector('.costs-told').textContent)");
+    await browser.waitFor(
+        "/^0000 is an order of the program and must stay\\. None of the last orders, 1 in all,/.test(document.querySelector('.costs-told').textContent)"
+    );
     assert.deepEqual(clocks, [one, two, one, two, one]);
     await browser.press("#about");
     await browser.press("#short-keys");
@@ -1154,7 +1397,9 @@ async function byKeys(browser) {
     await browser.waitFor("document.querySelector('.kiosk-bar') !== null");
     await settled(browser);
     assert.deepEqual(await losesFocus(browser, "#page button"), []);
-    await browser.value("document.activeElement.dispatchEvent(new KeyboardEvent('keydown', { key: 'L', ctrlKey: true, shiftKey: true, bubbles: true }))");
+    await browser.value(
+        "document.activeElement.dispatchEvent(new KeyboardEvent('keydown', { key: 'L', ctrlKey: true, shiftKey: true, bubbles: true }))"
+    );
     await browser.waitFor("document.querySelector('.lines input') !== null");
     assert.equal(await browser.value("document.activeElement.className"), "menu");
     await browser.reveal(".lines input");
@@ -1168,7 +1413,9 @@ async function byKeys(browser) {
 async function readOut(browser) {
     await browser.open(`${address}?lang=en&door=work`);
     await browser.reveal(".log");
-    for (const line of ["put 0000 p =h", "put 0001 p =i", "put 0002 z 0000", "press start"]) await browser.value(`laboratoryOfPage().say('${line}')`);
+    for (const line of ["put 0000 p =h", "put 0001 p =i", "put 0002 z 0000", "press start"]) {
+        await browser.value(`laboratoryOfPage().say('${line}')`);
+    }
     await browser.value(`(() => {
         globalThis.added = {};
         for (const log of document.querySelectorAll(".paper, .log")) {
@@ -1179,12 +1426,18 @@ async function readOut(browser) {
     const heard = [];
     for (const line of ["words 0000 1", "orders 1", "orders 1", "jump"]) {
         await browser.value(`laboratoryOfPage().say('${line}')`);
-        heard.push(await browser.value("(() => { const heard = Object.values(added); for (const name in added) added[name] = ''; return heard; })()"));
+        heard.push(
+            await browser.value(
+                "(() => { const heard = Object.values(added); for (const name in added) added[name] = ''; return heard; })()"
+            )
+        );
     }
     // in the document the lines come before the paper
     for (const both of heard) both.reverse();
-    assert.deepEqual(heard, [["", "words 0000 1\n0000 00083100\n"], ["h", "orders 1\norders 1 going\n"], ["i", "orders 1\norders 1 going\n"],
-        ["", "jump\n? 1 Form: there is no such command; help lists them all\n"]]);
+    assert.deepEqual(heard, [
+        ["", "words 0000 1\n0000 00083100\n"], ["h", "orders 1\norders 1 going\n"], ["i", "orders 1\norders 1 going\n"],
+        ["", "jump\n? 1 Form: there is no such command; help lists them all\n"]
+    ]);
     const roles = await browser.value("['notice', 'progress'].map((id) => document.getElementById(id).getAttribute('role'))");
     assert.deepEqual(roles, ["alert", "status"]);
     assert.match(await textOf(browser, "#notice"), /no such command/);
@@ -1201,13 +1454,18 @@ async function pictureByPicture(browser) {
         };
         requestAnimationFrame(look);
     })`);
-    const { clock, find, take, seek, act } = await browser.value("(({ clock, find, take, seek, act }) => ({ clock: Number(clock), find, take, seek, act }))(laboratoryOfPage().accounts.at(-1))");
+    const { clock, find, take, seek, act } = await browser.value(
+        "(({ clock, find, take, seek, act }) => ({ clock: Number(clock), find, take, seek, act }))(laboratoryOfPage().accounts.at(-1))"
+    );
     let at = clock;
     const ends = [find, take, seek, act].map((times) => { at += times; return at % 64; });
     assert.deepEqual(places.map((place) => (64 - place) % 64), ends);
 }
 
-/** Nothing moves by itself: no animation runs after any step, but for a word that turns over once as it is changed; and none at all where no motion is wanted, and the hall stands. */
+/**
+ * Nothing moves by itself: no animation runs after any step, but for a word that turns over once as it is changed; and none at all where no
+ * motion is wanted, and the hall stands.
+ */
 async function stillness(browser) {
     for (const value of wishes(browser, "no-preference", "reduce")) {
         await browser.media?.({ "prefers-reduced-motion": value });
@@ -1250,8 +1508,10 @@ async function withoutWebAssembly() {
     }
 }
 
-/** The same sentence is told by a browser without BigInt; by one that cannot read the page's script, as one without BigInt cannot; where the module is
- * none; and where the memory is refused. Today's browsers have all that, so here it is taken from them, or from the page. */
+/**
+ * The same sentence is told by a browser without BigInt; by one that cannot read the page's script, as one without BigInt cannot; where the
+ * module is none; and where the memory is refused. Today's browsers have all that, so here it is taken from them, or from the page.
+ */
 async function cannotOpen() {
     const other = await Engine.start(800, 600);
     const folder = mkdtempSync(join(tmpdir(), "page-"));
@@ -1272,7 +1532,10 @@ async function cannotOpen() {
         assert.deepEqual(other.told, []);
         assert.match(await changed("<script>\n(()=>{", "<script>\n65536nn;(()=>{"), /SyntaxError|Script error/);
         assert.match(await rewritten("\0", "\0 65536nn;"), /SyntaxError|Script error/);
-        assert.match(await changed(packed(readFileSync(join(top, "libraries/javascript/lgp_c_region.wasm"))), packed(Buffer.from("no module"))), /^these bytes are not a module that can be used here: /);
+        assert.match(
+            await changed(packed(readFileSync(join(top, "libraries/javascript/lgp_c_region.wasm"))), packed(Buffer.from("no module"))),
+            /^these bytes are not a module that can be used here: /
+        );
         assert.match(await rewritten(`=${2 ** 26}){`, `=${2 ** 40}){`), /^there is not enough memory/);
     } finally {
         await other.end();
@@ -1282,7 +1545,9 @@ async function cannotOpen() {
 
 /** The replies of a script by each program that runs scripts. */
 function repliesTo(script) {
-    const module = [process.execPath, ...process.execArgv, join(top, "page/run_script.mjs"), join(top, "libraries/javascript/lgp_c_region.wasm")];
+    const module = [
+        process.execPath, ...process.execArgv, join(top, "page/run_script.mjs"), join(top, "libraries/javascript/lgp_c_region.wasm"),
+    ];
     const programs = process.env.LAB === undefined ? [module] : [module, [process.env.LAB]];
     return programs.map(([program, ...words]) => {
         const { status, stdout, stderr } = spawnSync(program, words, { input: script, encoding: "utf8", maxBuffer: 1 << 26 });
@@ -1307,7 +1572,9 @@ async function endsThere(browser) {
     return [whole, short].map((script) => script.split("\n").length - 1);
 }
 
-/** A visitor at a touch screen, who taps: at the kiosk, whose buttons all lie in sight, and at the page, where a finger hits each button. */
+/**
+ * A visitor at a touch screen, who taps: at the kiosk, whose buttons all lie in sight, and at the page, where a finger hits each button.
+ */
 async function touch(browser) {
     const taps = async (selector) => {
         await browser.tap(selector);
@@ -1316,7 +1583,8 @@ async function touch(browser) {
     };
     await browser.size(1024, 768);
     await browser.open(`${address}?kiosk=message&lang=en`);
-    const hidden = "[...document.querySelectorAll('.kiosk-bar button')].filter((it) => { const { bottom, height } = it.getBoundingClientRect(); return bottom > innerHeight || height < 44; }).length";
+    const hidden =
+        "[...document.querySelectorAll('.kiosk-bar button')].filter((it) => { const { bottom, height } = it.getBoundingClientRect(); return bottom > innerHeight || height < 44; }).length";
     assert.equal(await browser.value(hidden), 0);
     await browser.waitFor(isMoving);
     await taps(".kiosk .plate");
@@ -1331,14 +1599,17 @@ async function touch(browser) {
     assert.notEqual((await textOf(browser, ".paper")).trim(), "");
     await browser.open(`${address}?lang=en#self-modifying`);
     assert.deepEqual(await sideways(browser), []);
-    const small = "[...document.querySelectorAll('#page button, #page select, #page input')].filter((it) => it.checkVisibility() && !it.closest('label') && Math.min(it.getBoundingClientRect().width, it.getBoundingClientRect().height) < 24).map((it) => it.outerHTML.slice(0, 90))";
+    const small =
+        "[...document.querySelectorAll('#page button, #page select, #page input')].filter((it) => it.checkVisibility() && !it.closest('label') && Math.min(it.getBoundingClientRect().width, it.getBoundingClientRect().height) < 24).map((it) => it.outerHTML.slice(0, 90))";
     assert.deepEqual(await browser.value(small), []);
     for (let order = 0; order < 4; order += 1) {
         await taps("#step");
         await halt(browser);
     }
     await browser.reveal("tr[data-address='0009'] button");
-    await browser.value("new Promise((resolve) => { let pictures = 0; const next = () => { pictures += 1; if (pictures < 4) requestAnimationFrame(next); else resolve(); }; next(); })");
+    await browser.value(
+        "new Promise((resolve) => { let pictures = 0; const next = () => { pictures += 1; if (pictures < 4) requestAnimationFrame(next); else resolve(); }; next(); })"
+    );
     await taps("tr[data-address='0009'] button");
     assert.match(await textOf(browser, ".why"), /put there by y 0009 at 0005/);
     await taps("#back");
@@ -1351,7 +1622,61 @@ async function touch(browser) {
     await browser.size(1500, 1250);
 }
 
-const all = { ...visitsOfTasks(address), ...visitsOfGames(address), ...visitsOfHand(address), ...visitsOfExamples(address), ...visitsOfStorage(address), ...visitsOfKiosk(address), ...visitsOfExhibits(address, pictures), ...visitsOfLook(address), ...visitsOfOrder(address), ...visitsOfPaper(address), ...visitsOfSending(address), ...visitsOfSure(address), ...visitsOfPeople(address), ...visitsOfProjector(address), ...visitsOfWishes(address), ...visitsOfPoints(address), ...visitsOfEditor(address), ...visitsOfRows(address), ...visitsOfWorkbench(address), kiosk, addresses, changes, thereAndBack, openSource, whatToPress, operated, endlessPrint, firstHour, lesson, stories, scope, doors, look, ...lessonVisits({ address, press, settled, steps, picture, textOf, sideways }), sound, saved, notLost, source, profile, costs, badInput, usedUp, longRun, paces, forPeople, widths, everyone, byKeys, readOut, stillness, touch, withoutWebAssembly, cannotOpen };
+const all = {
+    ...visitsOfTasks(address),
+    ...visitsOfGames(address),
+    ...visitsOfHand(address),
+    ...visitsOfExamples(address),
+    ...visitsOfStorage(address),
+    ...visitsOfKiosk(address),
+    ...visitsOfExhibits(address, pictures),
+    ...visitsOfLook(address),
+    ...visitsOfOrder(address),
+    ...visitsOfPaper(address),
+    ...visitsOfSending(address),
+    ...visitsOfSure(address),
+    ...visitsOfPeople(address),
+    ...visitsOfProjector(address),
+    ...visitsOfWishes(address),
+    ...visitsOfPoints(address),
+    ...visitsOfEditor(address),
+    ...visitsOfRows(address),
+    ...visitsOfWorkbench(address),
+    kiosk,
+    addresses,
+    changes,
+    thereAndBack,
+    openSource,
+    whatToPress,
+    operated,
+    endlessPrint,
+    firstHour,
+    lesson,
+    stories,
+    scope,
+    doors,
+    look,
+    ...lessonVisits({ address, press, settled, steps, picture, textOf, sideways }),
+    sound,
+    saved,
+    notLost,
+    source,
+    profile,
+    costs,
+    badInput,
+    usedUp,
+    longRun,
+    paces,
+    forPeople,
+    widths,
+    everyone,
+    byKeys,
+    readOut,
+    stillness,
+    touch,
+    withoutWebAssembly,
+    cannotOpen,
+};
 const wanted = wantedVisits(Object.keys(all), { named: process.env.VISITS, isMain: Engine !== Chromium, left });
 const visits = Object.fromEntries(wanted.map((name) => [name, all[name]]));
 let browser = await Engine.start();
@@ -1368,7 +1693,12 @@ async function visited(name) {
         if (name === "longRun") assert.ok(found >= LEAST_SPEED, `${Math.round(found)} orders a second`);
         const lines = ["withoutWebAssembly", "cannotOpen"].includes(name) ? null : await endsThere(browser);
         const saves = lines === null ? "" : `, ${lines[1]} lines saved of ${lines[0]}`;
-        return { isWell: true, line: `${name}: well${found === undefined ? "" : `, ${typeof found === "number" ? Math.round(found) : found}`}${saves}, ${seconds()}` };
+        return {
+            isWell: true,
+            line: `${name}: well${found === undefined
+                ? ""
+                : `, ${typeof found === "number" ? Math.round(found) : found}`}${saves}, ${seconds()}`,
+        };
     } catch (failure) {
         return { isWell: false, line: `${name}: ${failure.message}, ${seconds()}` };
     }
@@ -1380,10 +1710,16 @@ async function end() {
     await browser.end();
 }
 
-/** How often a visit is tried: an engine that has crashed, or a machine that stood still, says nothing of the page, unless the same comes again in new engines. */
+/**
+ * How often a visit is tried: an engine that has crashed, or a machine that stood still, says nothing of the page, unless the same comes
+ * again in new engines.
+ */
 const TRIES = 3;
 
-/** Tries a visit until it is well. Gives whether it was, and the lines of all tries, the last one first; what a page told in a try before the last is told with that. */
+/**
+ * Tries a visit until it is well. Gives whether it was, and the lines of all tries, the last one first; what a page told in a try before
+ * the last is told with that.
+ */
 async function tried(name) {
     const lines = [];
     for (let more = TRIES - 1; ; more -= 1) {

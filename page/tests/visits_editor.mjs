@@ -1,4 +1,5 @@
-// Visits of people who write a source: what they type is coloured, completed and said to be right or wrong at once, by keys alone; and however long it is, the page hears each key.
+// Visits of people who write a source: what they type is coloured, completed and said to be right or wrong at once, by keys alone; and
+// however long it is, the page hears each key.
 import assert from "node:assert/strict";
 
 const settled = (browser) => browser.value("laboratoryOfPage().settled()");
@@ -10,11 +11,15 @@ const [LONGEST_KEY, LONGEST_EDIT] = [given("LONGEST_KEY", 16), given("LONGEST_ED
 const EDITOR = "document.querySelector('.source .CodeMirror').CodeMirror";
 const toldIs = (browser, pattern) => browser.waitFor(`${pattern}.test(document.querySelector('.source .told').textContent)`);
 const focusEditor = (browser) => browser.value(`void ${EDITOR}.focus()`);
-const seen = (browser, selector) => browser.value(`[...document.querySelectorAll(${JSON.stringify(selector)})].filter((it) => it.checkVisibility()).map((it) => it.textContent)`);
+const seen = (browser, selector) => browser.value(
+    `[...document.querySelectorAll(${JSON.stringify(selector)})].filter((it) => it.checkVisibility()).map((it) => it.textContent)`
+);
 const isFocused = (browser) => browser.value("document.activeElement?.closest('.source .CodeMirror') != null");
 
 /** Long tasks are noted from here on; gives the call that ends that. */
-const noteTasks = (browser) => browser.preload("globalThis.longTasks = []; new PerformanceObserver((list) => longTasks.push(...list.getEntries().map(({ duration }) => duration))).observe({ type: 'longtask', buffered: true });");
+const noteTasks = (browser) => browser.preload(
+    "globalThis.longTasks = []; new PerformanceObserver((list) => longTasks.push(...list.getEntries().map(({ duration }) => duration))).observe({ type: 'longtask', buffered: true });"
+);
 const longestTask = (browser) => browser.value("Math.max(0, ...longTasks)");
 
 /** A program is typed by keys alone: with completion, its places, a fault that is told and mended, a stop, and a run. */
@@ -54,13 +59,21 @@ async function writing(browser, address) {
     await browser.strike("Enter", "Control");
     await browser.waitFor("laboratoryOfPage().panel.accumulator === '00000004'");
     await settled(browser);
-    assert.deepEqual(await browser.value(`[laboratoryOfPage().panel.counter, document.querySelectorAll('.source .CodeMirror-linebackground.next').length, ${EDITOR}.lineInfo(1).bgClass]`), ["0001", 1, "next"]);
+    assert.deepEqual(
+        await browser.value(
+            `[laboratoryOfPage().panel.counter, document.querySelectorAll('.source .CodeMirror-linebackground.next').length, ${EDITOR}.lineInfo(1).bgClass]`
+        ),
+        ["0001", 1, "next"]
+    );
     await browser.strike("F9");
     await settled(browser);
     assert.deepEqual([await browser.value("laboratoryOfPage().rules"), await seen(browser, ".source .stop")], [[], []]);
 }
 
-/** Undo and redo, find, and the ways out: Tab leaves the editor, Shift Tab too, and in another language the text is there, with what can be undone. */
+/**
+ * Undo and redo, find, and the ways out: Tab leaves the editor, Shift Tab too, and in another language the text is there, with what can be
+ * undone.
+ */
 async function editing(browser, address) {
     await browser.open(`${address}?lang=en&door=work`);
     await browser.write(" b 0050 ; bring\n h 0051 ; keep\n end 0000");
@@ -76,7 +89,9 @@ async function editing(browser, address) {
     await browser.strike("Enter");
     await browser.strike("Escape");
     assert.deepEqual(await browser.value(`[${EDITOR}.getSelection(), document.querySelector('.CodeMirror-dialog')]`), ["keep", null]);
-    await browser.value("(() => { const it = document.getElementById('language'); it.value = 'de'; it.dispatchEvent(new Event('change')); })()");
+    await browser.value(
+        "(() => { const it = document.getElementById('language'); it.value = 'de'; it.dispatchEvent(new Event('change')); })()"
+    );
     assert.match(await browser.written(), /^ b 0050/);
     await focusEditor(browser);
     await browser.strike("z", "Control");
@@ -88,10 +103,16 @@ async function editing(browser, address) {
         assert.deepEqual([await isFocused(browser), await browser.value("document.activeElement !== document.body")], [false, true]);
     }
     assert.match(await browser.written(), /^ b 0050 ; bring\n h 0051 ; keep\n end 0000$/);
-    assert.deepEqual(await browser.value(`(({ role, ariaLabel, ariaMultiLine }) => [role, ariaLabel, ariaMultiLine])(${EDITOR}.getInputField())`), ["textbox", "Der Text des Programms", "true"]);
+    assert.deepEqual(
+        await browser.value(`(({ role, ariaLabel, ariaMultiLine }) => [role, ariaLabel, ariaMultiLine])(${EDITOR}.getInputField())`),
+        ["textbox", "Der Text des Programms", "true"]
+    );
 }
 
-/** Beside the lines of a source that was loaded the drum's words are shown as they are now: what the program has changed is marked, and is as it was where one goes back. */
+/**
+ * Beside the lines of a source that was loaded the drum's words are shown as they are now: what the program has changed is marked, and is
+ * as it was where one goes back.
+ */
 async function changedWords(browser, address) {
     await browser.open(`${address}?lang=en&door=work`);
     await browser.write("start b sum\n a one\n h sum\n z\none word 00000002\nsum word 00000000\n end start");
@@ -105,14 +126,19 @@ async function changedWords(browser, address) {
     assert.doesNotMatch(await browser.value("laboratoryOfPage().transcript()"), /numbers/);
 }
 
-/** What the check asks stands in no transcript. A long comment is one row, begins in the column of all comments, and can be read whole where the cursor goes; a comment alone begins where it is written. */
+/**
+ * What the check asks stands in no transcript. A long comment is one row, begins in the column of all comments, and can be read whole where
+ * the cursor goes; a comment alone begins where it is written.
+ */
 async function apart(browser, address) {
     await browser.open(`${address}?lang=en&door=work`);
     await browser.write(` b 0050 ; ${"a long comment ".repeat(20)}\n end 0000`);
     await toldIs(browser, /^No fault: 1 words/);
     assert.deepEqual(await browser.value("[laboratoryOfPage().lines.length, laboratoryOfPage().assembled]"), [0, null]);
     assert.equal(await browser.value("laboratoryOfPage().transcript()"), "");
-    const places = () => browser.value(`[...document.querySelectorAll(".source .CodeMirror-line .cm-comment")].map((it) => { const { left, height } = it.getBoundingClientRect(); return [Math.round(left), height < 25]; })`);
+    const places = () => browser.value(
+        `[...document.querySelectorAll(".source .CodeMirror-line .cm-comment")].map((it) => { const { left, height } = it.getBoundingClientRect(); return [Math.round(left), height < 25]; })`
+    );
     await browser.write("; alone\n b 0050 ; short\nstart   h 0051       ; in its column\n z; none\n end 0000");
     const [[alone], [first, isLow], [second]] = await places();
     assert.deepEqual([first === second, first > alone + 100, isLow], [true, true, true]);
@@ -121,16 +147,27 @@ async function apart(browser, address) {
     assert.equal(await browser.value("document.querySelector('.source .cm-comment').title"), "a long comment ".repeat(20));
     await browser.value(`(${EDITOR}.focus(), ${EDITOR}.setCursor(0, 300), void ${EDITOR}.scrollIntoView(null))`);
     await browser.strike("End");
-    await browser.waitFor(`${EDITOR}.cursorCoords(true, "window").left < document.querySelector(".source .CodeMirror").getBoundingClientRect().right`);
-    const [thought, real] = await browser.value(`[${EDITOR}.cursorCoords(true, "window").left, (() => { const it = getSelection().getRangeAt(0); return it.getClientRects()[0]?.left ?? null; })()]`);
+    await browser.waitFor(
+        `${EDITOR}.cursorCoords(true, "window").left < document.querySelector(".source .CodeMirror").getBoundingClientRect().right`
+    );
+    const [thought, real] = await browser.value(
+        `[${EDITOR}.cursorCoords(true, "window").left, (() => { const it = getSelection().getRangeAt(0); return it.getClientRects()[0]?.left ?? null; })()]`
+    );
     assert.ok(real === null || Math.abs(thought - real) <= 1, `the caret is at ${real}, and the editor thinks that it is at ${thought}`);
 }
 
-/** What the words of a loaded source are stands at the edge of their lines, as what it is, also while the program runs: a whole number, an order that was changed. The digits beside the lines are seen when they are wanted. */
+/**
+ * What the words of a loaded source are stands at the edge of their lines, as what it is, also while the program runs: a whole number, an
+ * order that was changed. The digits beside the lines are seen when they are wanted.
+ */
 async function values(browser, address) {
     await browser.open(`${address}?lang=en&door=work`);
-    const edge = () => browser.value("[...document.querySelectorAll('.source .edge span')].map((it) => [it.dataset.line, it.textContent, it.className].join(' '))");
-    await browser.write("start   b count\n a one\n h count\n y change\nchange  a 0000\n h mark\n u start\ncount   int 0 29\none     int 1 29\nmark    word 00000000\n end start");
+    const edge = () => browser.value(
+        "[...document.querySelectorAll('.source .edge span')].map((it) => [it.dataset.line, it.textContent, it.className].join(' '))"
+    );
+    await browser.write(
+        "start   b count\n a one\n h count\n y change\nchange  a 0000\n h mark\n u start\ncount   int 0 29\none     int 1 29\nmark    word 00000000\n end start"
+    );
     await toldIs(browser, /^No fault/);
     assert.deepEqual(await edge(), []);
     await browser.value("laboratoryOfPage().load(document.querySelector('.source .CodeMirror').CodeMirror.getValue())");
@@ -140,8 +177,12 @@ async function values(browser, address) {
     await browser.waitFor("document.querySelectorAll('.source .edge span').length === 4");
     assert.deepEqual(await edge(), ["5 a 0136 changed", "8 100 changed", "9 1 whole", "10 00000190 changed"]);
     await browser.go("fast");
-    const counted = () => browser.value("Number(document.querySelector('.source .edge [data-line=\"8\"]')?.textContent.replaceAll(',', ''))");
-    await browser.waitFor("laboratoryOfPage().progress !== null && Number(document.querySelector('.source .edge [data-line=\"8\"]')?.textContent.replaceAll(',', '')) > 1000");
+    const counted = () => (
+        browser.value("Number(document.querySelector('.source .edge [data-line=\"8\"]')?.textContent.replaceAll(',', ''))")
+    );
+    await browser.waitFor(
+        "laboratoryOfPage().progress !== null && Number(document.querySelector('.source .edge [data-line=\"8\"]')?.textContent.replaceAll(',', '')) > 1000"
+    );
     const before = await counted();
     await pause(800);
     assert.ok(await counted() > before, "the value at the edge stands still while the program runs");
@@ -150,14 +191,22 @@ async function values(browser, address) {
     const isSeen = () => browser.value("document.querySelector('.source .digits').checkVisibility()");
     assert.equal(await isSeen(), false);
     await browser.press("#digits-too");
-    assert.deepEqual([await isSeen(), await browser.value("document.querySelector('#digits-too').getAttribute('aria-pressed')")], [true, "true"]);
+    assert.deepEqual(
+        [await isSeen(), await browser.value("document.querySelector('#digits-too').getAttribute('aria-pressed')")], [true, "true"]
+    );
     await browser.press("#digits-too");
 }
 
 /** Of 60 keys in a source of 5,000 lines the one that keeps the page busy longest, in milliseconds. */
 async function keys(browser, address) {
     await browser.open(`${address}?lang=en&door=work`);
-    await browser.write(Array.from({ length: 5000 }, (unused, line) => `${line < 3000 ? `l${line}` : ""}\t${line < 3000 ? "b 0050" : ""} ; a comment of this line`).concat(" end l0").join("\n"));
+    await browser.write(
+        Array.from(
+            { length: 5000 }, (unused, line) => `${line < 3000 ? `l${line}` : ""}\t${line < 3000 ? "b 0050" : ""} ; a comment of this line`
+        )
+            .concat(" end l0")
+            .join("\n")
+    );
     await toldIs(browser, /^No fault/);
     await browser.value(`(${EDITOR}.focus(), ${EDITOR}.setCursor(2500, 0), ${EDITOR}.scrollIntoView(null, 100))`);
     await pause(500);
@@ -175,7 +224,12 @@ async function keys(browser, address) {
     }
     times.sort(([one], [other]) => one - other);
     const [longest] = times.at(-1);
-    assert.ok(longest <= LONGEST_KEY, `a key takes ${longest} milliseconds, most take ${times[30][0]}: ${times.slice(-6).map(([time, key]) => `${key} ${time.toFixed(1)}`).join(", ")}`);
+    assert.ok(
+        longest <= LONGEST_KEY,
+        `a key takes ${longest} milliseconds, most take ${times[30][0]}: ${times.slice(-6)
+            .map(([time, key]) => `${key} ${time.toFixed(1)}`)
+            .join(", ")}`
+    );
     return `a key takes ${times[30][0].toFixed(1)} ms, the longest ${longest.toFixed(1)} ms`;
 }
 
@@ -187,7 +241,10 @@ const paste = (browser, text) => browser.value(`(() => {
     ${EDITOR}.getInputField().dispatchEvent(Object.defineProperty(new ClipboardEvent("paste", { bubbles: true, cancelable: true }), "clipboardData", { value: data }));
 })()`);
 
-/** 990,000 signs are pasted: in pieces, so that the page hears keys meanwhile. What was pasted is kept whole at once, and one undo takes it back. */
+/**
+ * 990,000 signs are pasted: in pieces, so that the page hears keys meanwhile. What was pasted is kept whole at once, and one undo takes it
+ * back.
+ */
 async function pasting(browser, address) {
     assert.ok(PASTED.length > 990_000);
     const end = browser.ask === undefined ? null : await noteTasks(browser);
@@ -236,14 +293,22 @@ async function opening(browser, address) {
     return `longest tasks: ${told}`;
 }
 
-/** The card comes and goes by one key, beside what is written; it lights the operation of the line, and the focus stays. Other keys run the program, and go an order on and back. */
+/**
+ * The card comes and goes by one key, beside what is written; it lights the operation of the line, and the focus stays. Other keys run the
+ * program, and go an order on and back.
+ */
 async function card(browser, address) {
     for (const code of ["en", "de"]) {
         await browser.open(`${address}?lang=${code}&door=work`);
         await browser.write("start b one\n z\none word 00000002\n end start");
         await browser.value(`(${EDITOR}.focus(), ${EDITOR}.setCursor(0, 7))`);
         await browser.strike("F1");
-        assert.deepEqual(await browser.value("[document.getElementById('card').checkVisibility(), [...document.querySelectorAll('#card .lit th')].map((it) => it.textContent), document.querySelectorAll('#card tbody:first-of-type tr').length > 20]"), [true, ["b"], true]);
+        assert.deepEqual(
+            await browser.value(
+                "[document.getElementById('card').checkVisibility(), [...document.querySelectorAll('#card .lit th')].map((it) => it.textContent), document.querySelectorAll('#card tbody:first-of-type tr').length > 20]"
+            ),
+            [true, ["b"], true]
+        );
         assert.equal(await isFocused(browser), true);
         await browser.value(`${EDITOR}.setCursor(2, 5)`);
         assert.deepEqual(await seen(browser, "#card .lit th"), ["word"]);
@@ -269,8 +334,15 @@ async function bars(browser, address) {
     await browser.value("document.querySelector('#run-program').click()");
     await browser.waitFor("document.querySelectorAll('.accounts .account-bar').length === 3");
     await settled(browser);
-    const [told, account] = await browser.value("(() => { const { at, order, find, seek, word } = laboratoryOfPage().accounts[1]; document.querySelectorAll('.accounts .account-bar')[1].click(); return [document.querySelector('.sentence-of-order').textContent, { at, order, find, seek, word }]; })()");
-    assert.match(told, new RegExp(`^${account.order} is at ${account.at}\\. When it was sought, sector \\d\\d was next under the head, so it came after ${account.find} places\\. Its word is at ${account.word}; then sector \\d\\d was next, so that came after ${account.seek} places\\.`));
+    const [told, account] = await browser.value(
+        "(() => { const { at, order, find, seek, word } = laboratoryOfPage().accounts[1]; document.querySelectorAll('.accounts .account-bar')[1].click(); return [document.querySelector('.sentence-of-order').textContent, { at, order, find, seek, word }]; })()"
+    );
+    assert.match(
+        told,
+        new RegExp(
+            `^${account.order} is at ${account.at}\\. When it was sought, sector \\d\\d was next under the head, so it came after ${account.find} places\\. Its word is at ${account.word}; then sector \\d\\d was next, so that came after ${account.seek} places\\.`
+        )
+    );
     await browser.value("document.querySelectorAll('.accounts .account-bar')[2].focus()");
     if (browser.ask === undefined) await browser.value("document.activeElement.click()");
     else await browser.strike("Enter");
@@ -283,4 +355,6 @@ async function bars(browser, address) {
 const VISITS = { bars, card, changedWords, values, writing, editing, apart, keys, pasting, opening };
 
 /** The visits of the editor of the page at an address, by their names. */
-export const visitsOfEditor = (address) => Object.fromEntries(Object.entries(VISITS).map(([name, visit]) => [name, (browser) => visit(browser, address)]));
+export const visitsOfEditor = (address) => (
+    Object.fromEntries(Object.entries(VISITS).map(([name, visit]) => [name, (browser) => visit(browser, address)]))
+);

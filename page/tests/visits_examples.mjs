@@ -5,14 +5,19 @@ const settled = (browser) => browser.value("laboratoryOfPage().settled()");
 const textOf = (browser, selector) => browser.value(`document.querySelector(${JSON.stringify(selector)}).innerText`);
 
 async function choose(browser, id, value) {
-    await browser.value(`(() => { const it = document.getElementById("${id}"); it.value = "${value}"; it.dispatchEvent(new Event("change")); })()`);
+    await browser.value(
+        `(() => { const it = document.getElementById("${id}"); it.value = "${value}"; it.dispatchEvent(new Event("change")); })()`
+    );
     await settled(browser);
 }
 
 /** Titles, explanation, script, the words' comments and the source of an example are German; another language has its own. */
 async function examplesInGerman(browser, address) {
     await browser.open(`${address}?lang=de#self-modifying`);
-    assert.equal(await textOf(browser, "option[value='first-run']"), "first-run: Der erste Lauf: Zwei Zahlen werden addiert, die Summe wird gespeichert, und die Maschine hält an");
+    assert.equal(
+        await textOf(browser, "option[value='first-run']"),
+        "first-run: Der erste Lauf: Zwei Zahlen werden addiert, die Summe wird gespeichert, und die Maschine hält an"
+    );
     assert.match(await textOf(browser, ".explanation-text"), /^Ein Programm, das seine eigenen Befehle ändert/);
     assert.match(await textOf(browser, ".script pre"), /; Die Routine: Sie addiert die Wörter auf 0100 bis 0103\./);
     assert.match(await textOf(browser, "tr[data-address='0003']"), /anhalten/);
@@ -27,23 +32,35 @@ async function examplesInGerman(browser, address) {
     assert.match(await textOf(browser, ".explanation-text"), /^Der Haushalt von placed-badly-and-well/);
 }
 
-/** Work opens with a source in each example, also where a script puts the words in: it is written by nobody, is lit as the machine goes, changes with the language, and is kept once somebody has changed it. */
+/**
+ * Work opens with a source in each example, also where a script puts the words in: it is written by nobody, is lit as the machine goes,
+ * changes with the language, and is kept once somebody has changed it.
+ */
 async function sourceBeside(browser, address) {
     await browser.open(`${address}?lang=en&door=work`);
     const names = await browser.value("[...document.querySelectorAll('#example option')].map((it) => it.value).filter((it) => it !== '')");
     assert.ok(names.length > 20, names.join());
     for (const name of names) {
         await choose(browser, "example", name);
-        await browser.waitFor("laboratoryOfPage().script !== null && document.querySelector('.source .CodeMirror').CodeMirror.getValue() !== ''");
+        await browser.waitFor(
+            "laboratoryOfPage().script !== null && document.querySelector('.source .CodeMirror').CodeMirror.getValue() !== ''"
+        );
     }
     await browser.open(`${address}?lang=en#self-modifying`);
     await browser.waitFor("document.querySelector('.source .verdict').dataset.is === 'right'");
     assert.match(await browser.written(), /^; The sum of a table, by orders that change other orders\.\nstart {3}r exit/);
-    assert.deepEqual(await browser.value("[laboratoryOfPage().source, laboratoryOfPage().loaded, document.querySelector('.source .told').textContent.includes('There is no source')]"), ["", null, false]);
+    assert.deepEqual(
+        await browser.value(
+            "[laboratoryOfPage().source, laboratoryOfPage().loaded, document.querySelector('.source .told').textContent.includes('There is no source')]"
+        ),
+        ["", null, false]
+    );
     await browser.tap("#step");
     await browser.halt();
     await settled(browser);
-    const lit = () => browser.value("(({ CodeMirror: it }) => it.lineCount() > 1 && Array.from({ length: it.lineCount() }, (_, line) => it.lineInfo(line)).filter(({ wrapClass, bgClass }) => /now/.test(`${wrapClass} ${bgClass}`)).map(({ text }) => text))(document.querySelector('.source .CodeMirror'))");
+    const lit = () => browser.value(
+        "(({ CodeMirror: it }) => it.lineCount() > 1 && Array.from({ length: it.lineCount() }, (_, line) => it.lineInfo(line)).filter(({ wrapClass, bgClass }) => /now/.test(`${wrapClass} ${bgClass}`)).map(({ text }) => text))(document.querySelector('.source .CodeMirror'))"
+    );
     assert.deepEqual((await lit()).map((line) => line.slice(0, 14)), ["start   r exit"]);
     await choose(browser, "language", "de");
     assert.match(await browser.written(), /^; Die Summe einer Tabelle, durch Befehle, die andere Befehle aendern\.\n/);
@@ -64,10 +81,16 @@ const NUMBERS = {
     de: ["Uhr 00\u202f000 · Umdrehung 000,0", "Uhr 00\u202f000", "ganze Zahl 00\u202f000, Bruch 0,000000000", "dauert 00 Wortzeiten"],
 };
 
-/** A word that a source declares as a whole number is read in decimal in the list of words, in what an order has stored and in the accumulator, in the language's signs; other words as orders or digits. What an order did is in one cell, and not cut; its digits are in the title. */
+/**
+ * A word that a source declares as a whole number is read in decimal in the list of words, in what an order has stored and in the
+ * accumulator, in the language's signs; other words as orders or digits. What an order did is in one cell, and not cut; its digits are in
+ * the title.
+ */
 async function wholesShown(browser, address) {
     await browser.open(`${address}?lang=en&door=work`);
-    await browser.write("start   b many\n        h sum\n        h other\n        z\nmany    int 12345 30\nsum     int -3 30\nother   word 00000004\n        end start");
+    await browser.write(
+        "start   b many\n        h sum\n        h other\n        z\nmany    int 12345 30\nsum     int -3 30\nother   word 00000004\n        end start"
+    );
     await browser.tap("#run-program");
     await browser.waitFor("laboratoryOfPage().panel.status === 'halted stop'");
     await settled(browser);
@@ -77,17 +100,29 @@ async function wholesShown(browser, address) {
         await choose(browser, "language", code);
         await browser.value("laboratoryOfPage().showAt('0000')");
         await settled(browser);
-        assert.deepEqual([await orderAt("0000"), await orderAt("0004"), await orderAt("0005"), await orderAt("0006")], ["b 0004", number, number, `word ${await browser.value("laboratoryOfPage().panel.accumulator")}`], code);
+        assert.deepEqual(
+            [await orderAt("0000"), await orderAt("0004"), await orderAt("0005"), await orderAt("0006")],
+            ["b 0004", number, number, `word ${await browser.value("laboratoryOfPage().panel.accumulator")}`],
+            code
+        );
         const [other, sum] = (await effects()).filter((effect) => effect.includes("→"));
         assert.deepEqual([sum, other], [`sum: -3 → ${number}`, "other: 00000004 → 00006072"]);
         assert.deepEqual(await effects(), [code === "en" ? "stops" : "hält an", other, sum, `A = ${number}`]);
         assert.equal(await browser.value("document.querySelectorAll('.trace-value small')[2].textContent"), number);
         assert.match(await browser.value("document.querySelectorAll('.effect-of')[2].title"), /0005 sum: wwwwwwwf → 00006072/);
-        assert.deepEqual(await browser.value("['.clock-turn', '.hub-clock', '.registers small', '.phases > :last-child'].map((it) => document.querySelector(it).textContent.replace(/[1-9]/g, '0'))"), NUMBERS[code], code);
+        assert.deepEqual(
+            await browser.value(
+                "['.clock-turn', '.hub-clock', '.registers small', '.phases > :last-child'].map((it) => document.querySelector(it).textContent.replace(/[1-9]/g, '0'))"
+            ),
+            NUMBERS[code],
+            code
+        );
     }
     for (const [width, height] of [[1366, 768], [1440, 900], [1024, 768], [1500, 1250]]) {
         await browser.size(width, height);
-        const cut = await browser.value("(async () => { await new Promise(requestAnimationFrame); return [...document.querySelectorAll('.accounts .effect-of')].filter((it) => it.scrollWidth > it.clientWidth || it.getBoundingClientRect().right > it.closest('.tab-panel').getBoundingClientRect().right || it.getBoundingClientRect().height > 30).map((it) => it.textContent); })()");
+        const cut = await browser.value(
+            "(async () => { await new Promise(requestAnimationFrame); return [...document.querySelectorAll('.accounts .effect-of')].filter((it) => it.scrollWidth > it.clientWidth || it.getBoundingClientRect().right > it.closest('.tab-panel').getBoundingClientRect().right || it.getBoundingClientRect().height > 30).map((it) => it.textContent); })()"
+        );
         assert.deepEqual(cut, [], `at ${width} by ${height}`);
     }
 }
@@ -95,4 +130,6 @@ async function wholesShown(browser, address) {
 const VISITS = { examplesInGerman, sourceBeside, wholesShown };
 
 /** The visits of the page at an address, by their names. */
-export const visitsOfExamples = (address) => Object.fromEntries(Object.entries(VISITS).map(([name, visit]) => [name, (browser) => visit(browser, address)]));
+export const visitsOfExamples = (address) => (
+    Object.fromEntries(Object.entries(VISITS).map(([name, visit]) => [name, (browser) => visit(browser, address)]))
+);

@@ -1,4 +1,5 @@
-// Visits of the exhibits that run a program at the kiosk: each is played to its end by its keys and by touches, upright and across, in both languages; its paper is what its example prints; and whatever is pressed, nothing breaks.
+// Visits of the exhibits that run a program at the kiosk: each is played to its end by its keys and by touches, upright and across, in both
+// languages; its paper is what its example prints; and whatever is pressed, nothing breaks.
 import assert from "node:assert/strict";
 import { readFileSync } from "node:fs";
 import { dirname, join } from "node:path";
@@ -11,15 +12,24 @@ const [ACROSS, UPRIGHT] = [[1920, 1080], [1080, 1920]];
 /** How long a scene may take, at a busy computer. */
 const LONG = 300_000;
 const settled = (browser) => browser.value("laboratoryOfPage().settled()");
-const strike = (browser, key, more = {}) => browser.value(`void document.body.dispatchEvent(new KeyboardEvent("keydown", { key: ${JSON.stringify(key)}, bubbles: true, ...${JSON.stringify(more)} }))`);
+const strike = (browser, key, more = {}) => browser.value(
+    `void document.body.dispatchEvent(new KeyboardEvent("keydown", { key: ${JSON.stringify(key)}, bubbles: true, ...${JSON.stringify(more)} }))`
+);
 export const paperOf = (browser) => browser.value("laboratoryOfPage().printed.text");
 const toldIn = (browser) => browser.value("document.querySelector('.kiosk-told').textContent");
 const isIn = (scene) => `document.body.dataset.scene === ${JSON.stringify(scene)}`;
 export const isDone = (scene) => `${isIn(scene)} && document.body.dataset.busy === "false"`;
-const textOf = (name, scene, caption, code) => JSON.parse(readFileSync(join(top, `page/exhibits/${name}.json`), "utf8")).scenes[scene].captions[caption].text[code];
+const textOf = (name, scene, caption, code) => (
+    JSON.parse(readFileSync(join(top, `page/exhibits/${name}.json`), "utf8")).scenes[scene].captions[caption].text[code]
+);
 
 /** What an example prints, as its file of expected replies has it. */
-const expectedOf = (name, which = -1) => readFileSync(join(top, `examples/${name}.expected`), "utf8").split("\n").filter((it) => /^printed \d/.test(it)).at(which).replace(/^printed \d+ /, "").replaceAll("[16]", "\n");
+const expectedOf = (name, which = -1) => readFileSync(join(top, `examples/${name}.expected`), "utf8")
+    .split("\n")
+    .filter((it) => /^printed \d/.test(it))
+    .at(which)
+    .replace(/^printed \d+ /, "")
+    .replaceAll("[16]", "\n");
 
 /** Opens an exhibit; another query lets the page be opened anew where only what follows # is another. */
 let opened = 0;
@@ -33,7 +43,10 @@ async function open(browser, address, name, code, [width, height], more = "") {
 /** A picture of a moment. */
 const moment = (browser, pictures, name) => (pictures === undefined ? undefined : browser.picture(join(pictures, `exhibit-${name}.png`)));
 
-/** The order in the hub of the drum, where it lies upon the phase below it. It is measured in Chromium, whose boxes of drawn texts are known. */
+/**
+ * The order in the hub of the drum, where it lies upon the phase below it. It is measured in Chromium, whose boxes of drawn texts are
+ * known.
+ */
 const uponInHub = async (browser) => (browser.engine !== "Chromium" ? [] : browser.value(`(() => {
     const [order, phase] = [".hub-order", ".hub-phase"].map((name) => document.querySelector(name));
     if (order === null || !order.checkVisibility() || order.textContent === "") return [];
@@ -44,12 +57,22 @@ const uponInHub = async (browser) => (browser.engine !== "Chromium" ? [] : brows
 /** What is seen now has all its texts whole and large enough, each button is hit, and nothing is to be scrolled. */
 async function assertSeen(browser, what) {
     await laidOut(browser);
-    assert.deepEqual([...await hiddenTexts(browser), ...await unhit(browser), ...await smallTexts(browser), ...await uponInHub(browser)], [], what);
-    assert.deepEqual(await browser.value("[document.querySelectorAll('.kiosk-bar button').length, document.documentElement.scrollHeight <= innerHeight, document.querySelectorAll('.kiosk-bar .primary').length <= 1]"), [4, true, true], what);
+    assert.deepEqual(
+        [...await hiddenTexts(browser), ...await unhit(browser), ...await smallTexts(browser), ...await uponInHub(browser)], [], what
+    );
+    assert.deepEqual(
+        await browser.value(
+            "[document.querySelectorAll('.kiosk-bar button').length, document.documentElement.scrollHeight <= innerHeight, document.querySelectorAll('.kiosk-bar .primary').length <= 1]"
+        ),
+        [4, true, true],
+        what
+    );
 }
 
 /** A way to press: by a key, or by a finger on the button. */
-const PRESSES = { keys: (browser, number) => strike(browser, String(number)), touches: (browser, number) => browser.tap(`#kiosk-${number}`) };
+const PRESSES = {
+    keys: (browser, number) => strike(browser, String(number)), touches: (browser, number) => browser.tap(`#kiosk-${number}`),
+};
 
 /** The weather in three acts, each to its end. */
 async function weather(browser, address, press, code, size, pictures) {
@@ -57,7 +80,10 @@ async function weather(browser, address, press, code, size, pictures) {
     await browser.waitFor("laboratoryOfPage().printed.text.includes('\\n0785')", LONG);
     await assertSeen(browser, "attract");
     await press(browser, 1);
-    await browser.waitFor(`${isIn("weather")} && document.querySelector('.paper.washed') !== null && document.querySelector('.row-told')?.textContent === "0250"`, LONG);
+    await browser.waitFor(
+        `${isIn("weather")} && document.querySelector('.paper.washed') !== null && document.querySelector('.row-told')?.textContent === "0250"`,
+        LONG
+    );
     await moment(browser, pictures, `weather-${code}-${size[0]}`);
     await assertSeen(browser, "weather");
     await browser.waitFor(isDone("weather"), LONG);
@@ -86,7 +112,9 @@ async function loop(browser, address, press, code, size, pictures) {
     await open(browser, address, "loop", code, size, "&idle=900");
     await press(browser, 1);
     await browser.waitFor(isDone("rounds"), LONG);
-    await browser.waitFor(`document.querySelector('.kiosk-told').textContent === ${JSON.stringify(textOf("loop", "rounds", 3, code))}`, LONG);
+    await browser.waitFor(
+        `document.querySelector('.kiosk-told').textContent === ${JSON.stringify(textOf("loop", "rounds", 3, code))}`, LONG
+    );
     assert.equal(await browser.value("document.querySelectorAll('.kiosk-bar .primary').length"), 0);
     for (const it of [size, [1366, 768]]) { await browser.size(...it); await assertSeen(browser, `rounds at ${it}`); }
     await browser.size(...size);
@@ -150,16 +178,24 @@ async function twentyOne(browser, address, press, code, size, pictures) {
     await browser.waitFor(`${isDone("play")} && /^\\d{4}/.test(document.querySelector('.typed').dataset.typed)`, LONG);
 }
 
-/** The screen of choice offers all exhibits, page by page, with what the kiosk had before; each leads back to it; left alone, it begins anew in its own language. */
+/**
+ * The screen of choice offers all exhibits, page by page, with what the kiosk had before; each leads back to it; left alone, it begins anew
+ * in its own language.
+ */
 async function exhibitsChosen(browser, address, pictures) {
     await browser.size(...ACROSS);
     await browser.open(`${address}?lang=de&idle=4#kiosk`);
     await browser.waitFor(isIn("attract"));
     const labels = () => browser.value("[...document.querySelectorAll('.kiosk-bar button')].map((it) => it.textContent)");
     const first = await labels();
-    assert.deepEqual(first, ["Ein Wetter von 1963", "Die Schleife, die ohne Frage endet", "Siebzehn und vier gegen die Maschine", "Mehr ▸"]);
+    assert.deepEqual(first, [
+        "Ein Wetter von 1963", "Die Schleife, die ohne Frage endet", "Siebzehn und vier gegen die Maschine", "Mehr ▸",
+    ]);
     await moment(browser, pictures, "choice-de-1920");
-    for (const size of [ACROSS, UPRIGHT, [1366, 768], [1024, 768]]) { await browser.size(...size); await assertSeen(browser, `choice at ${size}`); }
+    for (const size of [ACROSS, UPRIGHT, [1366, 768], [1024, 768]]) {
+        await browser.size(...size);
+        await assertSeen(browser, `choice at ${size}`);
+    }
     await browser.size(...ACROSS);
     await strike(browser, "4");
     assert.deepEqual(await labels(), ["Eine Formel geht hinein", "Ein Programm, das sich umschreibt", "Schneller machen", "Mehr ▸"]);
@@ -180,7 +216,10 @@ async function exhibitsChosen(browser, address, pictures) {
     assert.deepEqual(await browser.value("[document.body.dataset.exhibit ?? null, document.body.dataset.scene ?? null]"), [null, null]);
 }
 
-/** A file that is opened in Work is shown at the kiosk, with the file in the address; a wrong one is told, and nothing else happens. Back leads to the work as it was. */
+/**
+ * A file that is opened in Work is shown at the kiosk, with the file in the address; a wrong one is told, and nothing else happens. Back
+ * leads to the work as it was.
+ */
 async function exhibitOfOnesOwn(browser, address) {
     const file = readFileSync(join(top, "docs/exhibits/greeting.json"), "utf8");
     const give = (text) => browser.value(`(() => {
@@ -194,14 +233,18 @@ async function exhibitOfOnesOwn(browser, address) {
     await browser.open(`${address}?lang=en&door=work`);
     await browser.write("; mine");
     await give(file.replace('"to": "switch"', '"to": "swich"'));
-    await browser.waitFor("document.querySelector('#notice').textContent.includes('scenes.attract.buttons[0].to is \"swich\". The scenes are attract, switch.')");
+    await browser.waitFor(
+        "document.querySelector('#notice').textContent.includes('scenes.attract.buttons[0].to is \"swich\". The scenes are attract, switch.')"
+    );
     await give(file);
     await browser.waitFor(`${isIn("attract")} && laboratoryOfPage().printed.text === "\\ngood day"`);
     const address2 = await browser.value("location.href");
     await strike(browser, "1");
     await browser.waitFor(isDone("switch"));
     await strike(browser, "2");
-    await browser.waitFor(`laboratoryOfPage().printed.text === "\\ngood night" && document.querySelector('.kiosk-told').textContent === "TRANSFER CONTROL was down: good night."`);
+    await browser.waitFor(
+        `laboratoryOfPage().printed.text === "\\ngood night" && document.querySelector('.kiosk-told').textContent === "TRANSFER CONTROL was down: good night."`
+    );
     await assertSeen(browser, "own exhibit");
     await browser.value("void history.back()");
     await browser.waitFor("document.querySelector('.source .CodeMirror') !== null");
@@ -211,7 +254,9 @@ async function exhibitOfOnesOwn(browser, address) {
     await browser.open(address2);
     await browser.waitFor(`${isIn("attract")} && laboratoryOfPage().printed.text === "\\ngood day"`);
     await browser.open(`${address}?lang=en&n=own#exhibit=${encodeURIComponent("{}")}`);
-    await browser.waitFor("document.querySelector('#notice').textContent === 'The exhibit is refused. title is missing. It has to be there: an exhibit has a title and scenes.'");
+    await browser.waitFor(
+        "document.querySelector('#notice').textContent === 'The exhibit is refused. title is missing. It has to be there: an exhibit has a title and scenes.'"
+    );
     await strike(browser, "3");
     await browser.waitFor(`${isDone("deal")} && document.querySelector('#notice').hidden`);
 }
@@ -219,7 +264,10 @@ async function exhibitOfOnesOwn(browser, address) {
 /** How many keys and touches a visitor at random has in each exhibit. */
 const TOUCHES = 300;
 
-/** Visitors press keys and touch places at random: the exhibit is in one of its scenes, with four buttons, at its own address, and nothing is refused. */
+/**
+ * Visitors press keys and touch places at random: the exhibit is in one of its scenes, with four buttons, at its own address, and nothing
+ * is refused.
+ */
 async function exhibitsAtRandom(browser, address) {
     const keys = ["1", "2", "2", "3", "3", "4", "x", "Enter", "Escape", "F5", "ArrowLeft"];
     for (const name of ["weather", "loop", "twenty-one", "formula"]) {
@@ -227,7 +275,9 @@ async function exhibitsAtRandom(browser, address) {
         await open(browser, address, name, "en", [1366, 768]);
         const [before, among] = [await browser.value("location.href"), chance(name.length)];
         for (let done = 0; done < TOUCHES; done += 20) {
-            const touches = Array.from({ length: 20 }, () => (among(2) === 0 ? { key: keys[among(keys.length)] } : { x: among(1366), y: 500 + among(268) }));
+            const touches = Array.from(
+                { length: 20 }, () => (among(2) === 0 ? { key: keys[among(keys.length)] } : { x: among(1366), y: 500 + among(268) })
+            );
             await browser.value(`(async () => {
                 for (const { key, x, y } of ${JSON.stringify(touches)}) {
                     if (key === undefined) document.elementFromPoint(x, y)?.dispatchEvent(new MouseEvent("click", { bubbles: true, cancelable: true, clientX: x, clientY: y }));
@@ -235,7 +285,9 @@ async function exhibitsAtRandom(browser, address) {
                     await new Promise((resolve) => setTimeout(resolve, ${10 * (done % 3)}));
                 }
             })()`);
-            const [scene, buttons, href, notice] = await browser.value("[document.body.dataset.scene, document.querySelectorAll('.kiosk-bar button').length, location.href, document.querySelector('#notice').textContent]");
+            const [scene, buttons, href, notice] = await browser.value(
+                "[document.body.dataset.scene, document.querySelectorAll('.kiosk-bar button').length, location.href, document.querySelector('#notice').textContent]"
+            );
             assert.deepEqual([scene in scenes, buttons, href, notice], [true, 4, before, ""], `${name}: ${scene}`);
         }
         await open(browser, address, name, "en", [1366, 768]);
@@ -245,7 +297,9 @@ async function exhibitsAtRandom(browser, address) {
 
 /** In the first scene and where something stands beside the paper, all is seen at each size of a kiosk, on a tablet, and on a telephone. */
 async function exhibitsFit(browser, address) {
-    for (const code of ["en", "de"]) for (const [name, keys] of [["weather", ""], ["weather", "2"], ["loop", "1"], ["formula", "1"], ["twenty-one", "1"]]) {
+    for (const code of ["en", "de"]) for (const [name, keys] of [
+        ["weather", ""], ["weather", "2"], ["loop", "1"], ["formula", "1"], ["twenty-one", "1"],
+    ]) {
         await open(browser, address, name, code, [1366, 768], "&idle=900");
         for (const key of keys) await strike(browser, key);
         await browser.waitFor("document.querySelector('.kiosk-told').textContent !== ''");
@@ -253,7 +307,9 @@ async function exhibitsFit(browser, address) {
             await browser.size(...size);
             await laidOut(browser);
             const small = size[0] > 900 && size[1] >= 700 ? await smallTexts(browser) : [];
-            assert.deepEqual([...await hiddenTexts(browser), ...await unhit(browser), ...small], [], `${name} ${keys}, ${code}, at ${size}`);
+            assert.deepEqual(
+                [...await hiddenTexts(browser), ...await unhit(browser), ...small], [], `${name} ${keys}, ${code}, at ${size}`
+            );
             assert.ok(await browser.value("document.documentElement.scrollHeight <= innerHeight"), `${name} at ${size}`);
         }
     }
@@ -278,17 +334,25 @@ async function weatherFast(browser, address) {
 }
 
 const VISITS = {
-    weatherByKeys: (browser, address, pictures) => weather(browser, address, PRESSES.keys, "en", ACROSS, pictures), weatherByTouches: (browser, address, pictures) => weather(browser, address, PRESSES.touches, "de", UPRIGHT, pictures),
-    loopByKeys: (browser, address, pictures) => loop(browser, address, PRESSES.keys, "en", ACROSS, pictures), loopByTouches: (browser, address, pictures) => loop(browser, address, PRESSES.touches, "de", UPRIGHT, pictures),
-    formulaByKeys: (browser, address, pictures) => formula(browser, address, PRESSES.keys, "de", ACROSS, pictures), formulaByTouches: (browser, address, pictures) => formula(browser, address, PRESSES.touches, "en", UPRIGHT, pictures),
-    twentyOneByKeys: (browser, address, pictures) => twentyOne(browser, address, PRESSES.keys, "de", ACROSS, pictures), twentyOneByTouches: (browser, address, pictures) => twentyOne(browser, address, PRESSES.touches, "en", UPRIGHT, pictures),
+    weatherByKeys: (browser, address, pictures) => weather(browser, address, PRESSES.keys, "en", ACROSS, pictures),
+    weatherByTouches: (browser, address, pictures) => weather(browser, address, PRESSES.touches, "de", UPRIGHT, pictures),
+    loopByKeys: (browser, address, pictures) => loop(browser, address, PRESSES.keys, "en", ACROSS, pictures),
+    loopByTouches: (browser, address, pictures) => loop(browser, address, PRESSES.touches, "de", UPRIGHT, pictures),
+    formulaByKeys: (browser, address, pictures) => formula(browser, address, PRESSES.keys, "de", ACROSS, pictures),
+    formulaByTouches: (browser, address, pictures) => formula(browser, address, PRESSES.touches, "en", UPRIGHT, pictures),
+    twentyOneByKeys: (browser, address, pictures) => twentyOne(browser, address, PRESSES.keys, "de", ACROSS, pictures),
+    twentyOneByTouches: (browser, address, pictures) => twentyOne(browser, address, PRESSES.touches, "en", UPRIGHT, pictures),
     weatherFast, exhibitsChosen, exhibitOfOnesOwn, exhibitsAtRandom, exhibitsFit,
 };
 
 /** The visits of the page at an address, by their names. */
-export const visitsOfExhibits = (address, pictures) => Object.fromEntries(Object.entries(VISITS).map(([name, visit]) => [name, async (browser) => {
+const made = (visit, address, pictures) => async (browser) => {
     const did = await visit(browser, address, pictures);
     await browser.open(`${address}?lang=en&door=work`);
     await browser.size(1500, 1250);
     return did;
-}]));
+};
+
+export const visitsOfExhibits = (address, pictures) => Object.fromEntries(
+    Object.entries(VISITS).map(([name, visit]) => [name, made(visit, address, pictures)])
+);

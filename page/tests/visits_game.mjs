@@ -3,7 +3,9 @@ import assert from "node:assert/strict";
 import { disorder, faint, nameless } from "./access.mjs";
 
 const toldIn = (browser) => browser.value("document.querySelector('.kiosk-told').textContent");
-const heap = (browser) => browser.value("[document.querySelectorAll('.heap .match').length, document.querySelectorAll('.heap .taken').length]");
+const heap = (browser) => (
+    browser.value("[document.querySelectorAll('.heap .match').length, document.querySelectorAll('.heap .taken').length]")
+);
 const press = (browser, count) => browser.press(`#kiosk-${count}`);
 
 /** Waits until the text at the top is this one, and nothing moves. */
@@ -24,11 +26,20 @@ const outside = (browser) => browser.value(`[...document.querySelectorAll("#page
 }).map((it) => it.tagName + "." + it.className)`);
 
 const TEXTS = {
-    en: { turn: "It is your turn", runs: "It is the machine's turn", took: "The machine has taken", won: "You have won!", lost: "The machine has won" },
-    de: { turn: "Du bist am Zug", runs: "Die Maschine ist am Zug", took: "Die Maschine hat", won: "Du hast gewonnen!", lost: "Die Maschine hat gewonnen" },
+    en: {
+        turn: "It is your turn", runs: "It is the machine's turn", took: "The machine has taken", won: "You have won!",
+        lost: "The machine has won",
+    },
+    de: {
+        turn: "Du bist am Zug", runs: "Die Maschine ist am Zug", took: "Die Maschine hat", won: "Du hast gewonnen!",
+        lost: "Die Maschine hat gewonnen",
+    },
 };
 
-/** A whole game in a language: each move of the visitor's and what is left after that of the machine's, and how it ends when the visitor takes three. */
+/**
+ * A whole game in a language: each move of the visitor's and what is left after that of the machine's, and how it ends when the visitor
+ * takes three.
+ */
 async function whole(browser, texts, moves, ends) {
     assert.deepEqual(await heap(browser), [21, 0]);
     for (const [count, left] of moves) {
@@ -39,7 +50,9 @@ async function whole(browser, texts, moves, ends) {
     assert.deepEqual(await heap(browser), [0, 21]);
 }
 
-/** A visitor at the kiosk plays to win and to lose, and then begins another game by a press; the second press of a double one does nothing. */
+/**
+ * A visitor at the kiosk plays to win and to lose, and then begins another game by a press; the second press of a double one does nothing.
+ */
 async function game(browser, address) {
     await browser.ask?.("Accessibility.enable");
     for (const code of ["en", "de"]) {
@@ -49,10 +62,16 @@ async function game(browser, address) {
         await browser.waitFor("document.querySelector('.drum-box').dataset.moving === 'true'");
         await browser.press(".kiosk-told");
         await until(browser, texts.turn);
-        assert.deepEqual([await heap(browser), await browser.value("[...document.querySelectorAll('.kiosk-bar button')].length")], [[21, 0], 4]);
+        assert.deepEqual(
+            [await heap(browser), await browser.value("[...document.querySelectorAll('.kiosk-bar button')].length")], [[21, 0], 4]
+        );
         for (const [width, height] of [[1920, 1080], [1024, 768], [768, 1024], [1080, 1920], [390, 844]]) {
             await browser.size(width, height);
-            assert.deepEqual([await outside(browser), await browser.value("document.documentElement.scrollHeight <= innerHeight")], [[], true], `at ${width} by ${height}`);
+            assert.deepEqual(
+                [await outside(browser), await browser.value("document.documentElement.scrollHeight <= innerHeight")],
+                [[], true],
+                `at ${width} by ${height}`
+            );
         }
         await browser.size(1024, 768);
         await browser.value("document.querySelector('#kiosk-1').dispatchEvent(new MouseEvent('click', { detail: 2 }))");
@@ -86,4 +105,6 @@ async function gameAtItsPace(browser, address) {
 }
 
 /** The visits of the page at an address, by their names. */
-export const visitsOfGames = (address) => ({ game: (browser) => game(browser, address), gameAtItsPace: (browser) => gameAtItsPace(browser, address) });
+export const visitsOfGames = (address) => (
+    { game: (browser) => game(browser, address), gameAtItsPace: (browser) => gameAtItsPace(browser, address) }
+);

@@ -1,4 +1,5 @@
-// Visits of the drum in the hand: words are carried to other sectors, and what is told of that is what the monitor says, at each sector, by hand and by keys.
+// Visits of the drum in the hand: words are carried to other sectors, and what is told of that is what the monitor says, at each sector, by
+// hand and by keys.
 import assert from "node:assert/strict";
 import { readFileSync } from "node:fs";
 import { dirname, join } from "node:path";
@@ -21,7 +22,12 @@ async function told({ example, words }) {
     await setUpFor(laboratory, { opens: example }, (name) => readFileSync(join(top, `examples/${name}.txt`), "utf8"));
     await laboratory.run();
     const { accounts, words: costs } = await laboratory.askPlacing(words);
-    return { accounts, took: costs[0].times, least: costs[0].times - costs.reduce((sum, { saved }) => sum + saved, 0), at: new Map(costs.map(({ address, sectors }) => [address, new Map(sectors.map(({ sector, times }) => [sector, times]))])) };
+    return {
+        accounts,
+        took: costs[0].times,
+        least: costs[0].times - costs.reduce((sum, { saved }) => sum + saved, 0),
+        at: new Map(costs.map(({ address, sectors }) => [address, new Map(sectors.map(({ sector, times }) => [sector, times]))])),
+    };
 }
 
 const gripOf = (address) => `.faster .grip[data-word='${address}']`;
@@ -55,9 +61,14 @@ const placeOf = (browser, sector) => browser.value(`(() => {
     return [left + width / 2, top + height / 2].map(Math.round);
 })()`);
 
-const middleOf = (browser, selector) => browser.value(`(() => { const { x, y, width, height } = document.querySelector(${JSON.stringify(selector)}).getBoundingClientRect(); return [x + width / 2, y + height / 2].map(Math.round); })()`);
+const middleOf = (browser, selector) => browser.value(
+    `(() => { const { x, y, width, height } = document.querySelector(${JSON.stringify(selector)}).getBoundingClientRect(); return [x + width / 2, y + height / 2].map(Math.round); })()`
+);
 
-/** A word is carried over all sectors by the mouse, and then goes through all of them by keys: each number is the monitor's, and so is the sum of what is drawn; other words are elsewhere meanwhile. */
+/**
+ * A word is carried over all sectors by the mouse, and then goes through all of them by keys: each number is the monitor's, and so is the
+ * sum of what is drawn; other words are elsewhere meanwhile.
+ */
 async function exact(browser, address) {
     const costs = await told(PROGRAMS[0]);
     await browser.size(1440, 900);
@@ -109,18 +120,30 @@ async function carry(browser, word, places) {
 /** By how many places a word is led to the nearest sector that is best. */
 const wayTo = (costs, word) => {
     const best = Math.min(...costs.at.get(word).values());
-    const ways = [...costs.at.get(word)].filter(([, times]) => times === best).map(([sector]) => ((positionOf(sector) - positionOf(sectorOf(word)) + 96) % SECTORS) - 32);
+    const ways = [...costs.at.get(word)].filter(([, times]) => times === best).map(([sector]) => (
+        ((positionOf(sector) - positionOf(sectorOf(word)) + 96) % SECTORS) - 32
+    ));
     return ways.sort((one, other) => Math.abs(one) - Math.abs(other))[0];
 };
 
 /** Why a sector is free is shown, and all words can be put back; then they are carried again. */
 async function explained(browser, { words }, costs) {
     const least = Math.min(...costs.at.get(words.at(-1)).values());
-    const free = [...costs.at.get(words.at(-1))].filter(([, times]) => times === least).map(([sector]) => sector).sort((one, other) => one - other);
+    const free = [...costs.at.get(words.at(-1))]
+        .filter(([, times]) => times === least)
+        .map(([sector]) => sector)
+        .sort((one, other) => one - other);
     await browser.press("#faster-why");
-    assert.deepEqual(await browser.value("[...document.querySelectorAll('.faster .cell')].flatMap((it, sector) => (it.classList.contains('least') ? [sector] : []))"), free);
+    assert.deepEqual(
+        await browser.value(
+            "[...document.querySelectorAll('.faster .cell')].flatMap((it, sector) => (it.classList.contains('least') ? [sector] : []))"
+        ),
+        free
+    );
     await browser.press("#faster-back");
-    assert.deepEqual([await timesIn(browser), await browser.value("document.querySelectorAll('.faster .cell.origin').length")], [costs.took, 0]);
+    assert.deepEqual(
+        [await timesIn(browser), await browser.value("document.querySelectorAll('.faster .cell.origin').length")], [costs.took, 0]
+    );
     assert.match(await leadIn(browser), /^In the green sectors “sum” costs least/);
     await browser.press("#faster-why");
     for (const word of words) await carry(browser, word, wayTo(costs, word));
@@ -137,10 +160,19 @@ async function played(browser, address) {
     for (const program of PROGRAMS) {
         const costs = await told(program);
         await browser.waitFor(`${isRead} && document.querySelector(${JSON.stringify(gripOf(program.words[0]))}) !== null`);
-        assert.deepEqual([await timesIn(browser), await browser.value("document.querySelector('#faster-back').getAttribute('aria-disabled') === 'true'")], [costs.took, true], program.name);
+        assert.deepEqual(
+            [
+                await timesIn(browser),
+                await browser.value("document.querySelector('#faster-back').getAttribute('aria-disabled') === 'true'"),
+            ],
+            [costs.took, true],
+            program.name
+        );
         assert.match(await leadIn(browser), /^Each round of this loop takes \d+ turns of the drum\. Take a word by its grip/);
         for (const word of program.words) await carry(browser, word, wayTo(costs, word));
-        assert.deepEqual([await timesIn(browser), (await shown(browser, program.words[0])).drawn], [costs.least, costs.least], program.name);
+        assert.deepEqual(
+            [await timesIn(browser), (await shown(browser, program.words[0])).drawn], [costs.least, costs.least], program.name
+        );
         assert.match(await leadIn(browser), new RegExp(`^Nothing is faster with these ${program.words.length} words`));
         if (program === PROGRAMS[0]) await explained(browser, program, costs);
         await browser.press("#faster-another");
@@ -149,7 +181,9 @@ async function played(browser, address) {
     assert.equal(await timesIn(browser), 2142);
     await browser.press("#faster-back");
     await browser.press(".game > .line button:first-child");
-    await browser.waitFor("document.querySelector('[data-tale=\"wait\"][aria-pressed=true]') !== null && !document.body.hasAttribute('data-game')");
+    await browser.waitFor(
+        "document.querySelector('[data-tale=\"wait\"][aria-pressed=true]') !== null && !document.body.hasAttribute('data-game')"
+    );
     assert.equal(await browser.value("location.search"), "?lang=en&story=1&caption=1");
     await browser.value("history.back()");
     await browser.waitFor(`document.body.hasAttribute('data-game') && ${isRead}`);
@@ -157,7 +191,10 @@ async function played(browser, address) {
     assert.deepEqual([await timesIn(browser), await browser.value("location.search")], [2910, "?lang=en&game=faster"]);
 }
 
-/** When the time is over the best can be shown, and the player's own again; where the words lie is kept over a reload and in another language; it is no part of the visitor's work. */
+/**
+ * When the time is over the best can be shown, and the player's own again; where the words lie is kept over a reload and in another
+ * language; it is no part of the visitor's work.
+ */
 async function over(browser, address) {
     await open(browser, `${address}?game=faster&lang=en&seconds=1`);
     await carry(browser, "0022", -3);
@@ -165,14 +202,30 @@ async function over(browser, address) {
     const own = await timesIn(browser);
     await browser.waitFor("document.querySelector('#faster-best')?.isConnected");
     await browser.press("#faster-best");
-    assert.deepEqual([await timesIn(browser), await leadIn(browser), await browser.value("document.activeElement.id")], [2142, "This is the best: each word comes after an order that uses it, before the next one has gone by. The same orders take 2,142 word times instead of 2,910.", "faster-back"]);
+    assert.deepEqual(
+        [await timesIn(browser), await leadIn(browser), await browser.value("document.activeElement.id")],
+        [
+            2142,
+            "This is the best: each word comes after an order that uses it, before the next one has gone by. The same orders take 2,142 word times instead of 2,910.",
+            "faster-back",
+        ]
+    );
     await browser.press("#faster-back");
-    assert.deepEqual([await timesIn(browser), (await shown(browser, "0022")).text.slice(0, 10)], [own, `sector ${String(sectorAt(positionOf(22) - 3)).padStart(2, "0")}:`]);
+    assert.deepEqual(
+        [await timesIn(browser), (await shown(browser, "0022")).text.slice(0, 10)],
+        [own, `sector ${String(sectorAt(positionOf(22) - 3)).padStart(2, "0")}:`]
+    );
     await browser.value("(globalThis.isOld = true, location.reload())").catch(() => {});
     await browser.waitFor(`globalThis.isOld === undefined && document.documentElement.dataset.ready === 'true' && ${isRead}`);
-    const kept = async () => [await timesIn(browser), await browser.value("document.querySelectorAll('.faster .cell.origin').length"), await browser.value("laboratoryOfPage().lines.length")];
+    const kept = async () => [
+        await timesIn(browser),
+        await browser.value("document.querySelectorAll('.faster .cell.origin').length"),
+        await browser.value("laboratoryOfPage().lines.length"),
+    ];
     assert.deepEqual(await kept(), [own, 1, 0]);
-    await browser.value("(() => { const it = document.getElementById('language'); it.value = 'de'; it.dispatchEvent(new Event('change')); })()");
+    await browser.value(
+        "(() => { const it = document.getElementById('language'); it.value = 'de'; it.dispatchEvent(new Event('change')); })()"
+    );
     await browser.waitFor(`document.documentElement.lang === 'de' && ${isRead}`);
     assert.deepEqual(await kept(), [own, 1, 0]);
     assert.match(await leadIn(browser), /^In diesem Sektor spart „one“ nichts\. Für a auf 0012 kommt es 16 Plätze zu spät/);
@@ -181,7 +234,10 @@ async function over(browser, address) {
     assert.match(await browser.value("document.querySelector('#notice').textContent"), /^This page's address names no game: chess/);
 }
 
-/** Presses a button of the kiosk by its number, in the page or by its key, and compares what is shown with what the monitor says of the words where they are then. */
+/**
+ * Presses a button of the kiosk by its number, in the page or by its key, and compares what is shown with what the monitor says of the
+ * words where they are then.
+ */
 function makePresses(browser, costs, isByKey) {
     const { words } = PROGRAMS[0];
     const sectors = new Map(words.map((word) => [word, sectorOf(word)]));
@@ -198,7 +254,10 @@ function makePresses(browser, costs, isByKey) {
     };
 }
 
-/** At the kiosk button 2, or its key, leads into the game. Its buttons move a word by a place, take the next word, and end it: first the best is shown, then the kiosk is at its beginning. Nothing is kept, and the address stays. */
+/**
+ * At the kiosk button 2, or its key, leads into the game. Its buttons move a word by a place, take the next word, and end it: first the
+ * best is shown, then the kiosk is at its beginning. Nothing is kept, and the address stays.
+ */
 async function kiosk(browser, address) {
     const costs = await told(PROGRAMS[0]);
     await browser.size(1366, 768);
@@ -210,7 +269,10 @@ async function kiosk(browser, address) {
         await browser.waitFor(isAttract);
         await (isByKey ? browser.strike("2") : browser.press("#kiosk-2"));
         await browser.waitFor(`document.body.dataset.state === 'faster' && ${isRead}`);
-        assert.deepEqual(await browser.value("[1, 2, 3, 4].map((number) => document.querySelector(`#kiosk-${number}`).textContent)"), ["◂ one place back", "one place on ▸", "Next word", "Done"]);
+        assert.deepEqual(
+            await browser.value("[1, 2, 3, 4].map((number) => document.querySelector(`#kiosk-${number}`).textContent)"),
+            ["◂ one place back", "one place on ▸", "Next word", "Done"]
+        );
         assert.equal(await timesIn(browser), costs.took);
         const press = makePresses(browser, costs, isByKey);
         for (const number of [2, 2, 1, 3, 1, 1, 3, 2, 3, 1]) await press(number);
@@ -248,7 +310,9 @@ async function finger(browser, address) {
     await browser.size(1024, 768);
     await open(browser, `${address}?game=faster&lang=en`);
     const sectorNow = async () => (await shown(browser, "0024")).text.slice(0, 9);
-    await browser.lead([await middleOf(browser, gripOf("0024")), "down", await placeOf(browser, 3), await placeOf(browser, 39), "up"], "touch");
+    await browser.lead(
+        [await middleOf(browser, gripOf("0024")), "down", await placeOf(browser, 3), await placeOf(browser, 39), "up"], "touch"
+    );
     assert.deepEqual([await sectorNow(), await timesIn(browser)], ["sector 39", 2654]);
     await browser.lead([await middleOf(browser, gripOf("0024")), "down", await placeOf(browser, 12), "cancel"], "touch");
     assert.deepEqual([await sectorNow(), await timesIn(browser)], ["sector 39", 2654]);
@@ -262,9 +326,13 @@ async function watched(browser, address) {
     const turned = () => browser.value("document.querySelector('.faster .ring').style.transform");
     const before = await turned();
     await browser.press("#faster-watch");
-    await browser.waitFor(`document.querySelector('.faster .ring').style.transform !== ${JSON.stringify(before)} && document.querySelectorAll('.faster .round .now').length === 1`);
+    await browser.waitFor(
+        `document.querySelector('.faster .ring').style.transform !== ${JSON.stringify(before)} && document.querySelectorAll('.faster .round .now').length === 1`
+    );
     await browser.press("#faster-watch");
-    assert.deepEqual([await turned(), await browser.value("document.querySelector('#faster-watch').textContent")], [before, "Watch a round"]);
+    assert.deepEqual(
+        [await turned(), await browser.value("document.querySelector('#faster-watch').textContent")], [before, "Watch a round"]
+    );
     if (browser.media === undefined) return "but not without motion, since this browser cannot be told of that";
     await browser.media({ "prefers-reduced-motion": "reduce" });
     const seen = new Set();
@@ -278,7 +346,10 @@ async function watched(browser, address) {
     return undefined;
 }
 
-/** What of the game lies beyond the window or what cuts it off, what is smaller than 10 pixels, and which controls are hit by something else at their middle. */
+/**
+ * What of the game lies beyond the window or what cuts it off, what is smaller than 10 pixels, and which controls are hit by something else
+ * at their middle.
+ */
 const wrongIn = (browser) => browser.value(`(() => {
     const wrong = [];
     for (const it of document.querySelectorAll("header button, .faster :is(button, .grip, .big, .lead, .head, .goal b, .goal span, td, th, text, svg, canvas)")) {
@@ -305,8 +376,18 @@ async function seenAtEach(browser, what) {
         await browser.size(width, height);
         await browser.value("new Promise((resolve) => requestAnimationFrame(() => requestAnimationFrame(resolve)))");
         assert.deepEqual(await wrongIn(browser), [], `${what} at ${width} by ${height}`);
-        assert.equal(await browser.value("document.documentElement.scrollWidth <= innerWidth && document.documentElement.scrollHeight <= innerHeight"), true, `${width} by ${height}`);
-        const at = await browser.value(`[...document.querySelectorAll('.big, .goal, .movable button, ${width > 760 ? ".round tr, " : ".rounds, "}.foot, .faster .drum-box')].map((it) => [it.dataset.name ?? it.dataset.at ?? it.className, Math.round(it.getBoundingClientRect().top)].join(" "))`);
+        assert.equal(
+            await browser.value(
+                "document.documentElement.scrollWidth <= innerWidth && document.documentElement.scrollHeight <= innerHeight"
+            ),
+            true,
+            `${width} by ${height}`
+        );
+        const at = await browser.value(
+            `[...document.querySelectorAll('.big, .goal, .movable button, ${width > 760
+                ? ".round tr, "
+                : ".rounds, "}.foot, .faster .drum-box')].map((it) => [it.dataset.name ?? it.dataset.at ?? it.className, Math.round(it.getBoundingClientRect().top)].join(" "))`
+        );
         tops.push([`${width} by ${height}`, ...at]);
     }
     return tops;
@@ -315,13 +396,18 @@ async function seenAtEach(browser, what) {
 /** Letters that are wider than those that the page asks for first, as a machine without these may have them. */
 const WIDE = { "--tells": "DejaVu Serif, serif", "--labels": "DejaVu Sans, sans-serif" };
 
-/** At the sizes of common windows all of the game is seen at once, in both languages, and in wide letters; nothing moves when other words are told. */
+/**
+ * At the sizes of common windows all of the game is seen at once, in both languages, and in wide letters; nothing moves when other words
+ * are told.
+ */
 async function sizes(browser, address) {
     const costs = await told(PROGRAMS[0]);
     for (const [code, fonts] of [["en", {}], ["de", {}], ["en", WIDE], ["de", WIDE]]) {
         await browser.size(1440, 900);
         await open(browser, `${address}?game=faster&lang=${code}`);
-        await browser.value(`Object.entries(${JSON.stringify(fonts)}).forEach(([name, value]) => document.documentElement.style.setProperty(name, value))`);
+        await browser.value(
+            `Object.entries(${JSON.stringify(fonts)}).forEach(([name, value]) => document.documentElement.style.setProperty(name, value))`
+        );
         const where = `${code}${fonts === WIDE ? ", in wide letters" : ""}`;
         const tops = await seenAtEach(browser, `the beginning in ${where}`);
         const same = async (what) => assert.deepEqual(await seenAtEach(browser, `${what} in ${where}`), tops, `${what} in ${where}`);
@@ -343,10 +429,15 @@ const TELEPHONE = [390, 844];
 async function partsOf(browser, what) {
     await browser.value("new Promise((resolve) => requestAnimationFrame(() => requestAnimationFrame(resolve)))");
     assert.deepEqual(await wrongIn(browser), [], what);
-    return browser.value("[...document.querySelectorAll('.faster .drum-box, .lead, .big, .goal, .movable button, .rounds, .foot, .foot > *')].filter((it) => it.checkVisibility()).map((it) => { const { top, bottom } = it.getBoundingClientRect(); return `${top.toFixed(1)} ${bottom.toFixed(1)}`; })");
+    return browser.value(
+        "[...document.querySelectorAll('.faster .drum-box, .lead, .big, .goal, .movable button, .rounds, .foot, .foot > *')].filter((it) => it.checkVisibility()).map((it) => { const { top, bottom } = it.getBoundingClientRect(); return `${top.toFixed(1)} ${bottom.toFixed(1)}`; })"
+    );
 }
 
-/** On a telephone each program of the game is seen whole in each of its states, in both languages: nothing moves from one to the next, also when the time is over and the best is shown, and when it is reached. */
+/**
+ * On a telephone each program of the game is seen whole in each of its states, in both languages: nothing moves from one to the next, also
+ * when the time is over and the best is shown, and when it is reached.
+ */
 async function telephone(browser, address) {
     await browser.size(...TELEPHONE);
     for (const code of ["en", "de"]) {
@@ -377,7 +468,8 @@ async function telephone(browser, address) {
 }
 
 /** A small household, whose wage is named by its label, and whose rent is named by its address. */
-const SOURCE = "week a wage\n s 0021\n t week\n z\n org 0020\nwage int 30 30\nrent int 12 30\ndebt int -95 30\n org 0040\nstart b debt\n u week\n end start";
+const SOURCE =
+    "week a wage\n s 0021\n t week\n z\n org 0020\nwage int 30 30\nrent int 12 30\ndebt int -95 30\n org 0040\nstart b debt\n u week\n end start";
 
 /** Asks for the costs of a word, and waits for its pin. */
 async function asksCosts(browser, word) {
@@ -392,10 +484,15 @@ const notice = (browser, wanted) => browser.waitFor(`${wanted}.test(document.que
 /** Runs the source, and waits for its end. */
 async function runs(browser) {
     await browser.press("#run-program");
-    await browser.waitFor("laboratoryOfPage().panel.status === 'halted stop' && laboratoryOfPage().loaded === document.querySelector('.source .CodeMirror').CodeMirror.getValue()");
+    await browser.waitFor(
+        "laboratoryOfPage().panel.status === 'halted stop' && laboratoryOfPage().loaded === document.querySelector('.source .CodeMirror').CodeMirror.getValue()"
+    );
 }
 
-/** In Work the word whose costs are shown is carried on the drum: each number is the monitor's. It is written into the source, which is run, and takes what was foretold; the editor takes it back. */
+/**
+ * In Work the word whose costs are shown is carried on the drum: each number is the monitor's. It is written into the source, which is run,
+ * and takes what was foretold; the editor takes it back.
+ */
 async function carried(browser, address) {
     await browser.open(`${address}?lang=en&door=work`);
     await browser.write(SOURCE);
@@ -407,16 +504,28 @@ async function carried(browser, address) {
         await browser.strike("ArrowRight");
         const sector = sectorAt(positionOf(20) + place);
         const says = await carriedTold(browser);
-        assert.ok(says.startsWith(`In sector ${String(sector).padStart(2, "0")} the same orders would have taken ${costs.get(sector).toLocaleString("en")} word times: `), says);
+        assert.ok(
+            says.startsWith(
+                `In sector ${String(sector).padStart(2, "0")} the same orders would have taken ${costs.get(sector).toLocaleString("en")} word times: `
+            ),
+            says
+        );
     }
     await browser.strike("Home");
     assert.equal(await carriedTold(browser), "Take the word by its pin on the drum, and carry it to another sector.");
     const [best] = [...costs].sort(([, one], [, other]) => one - other)[0];
-    const [x, y] = await browser.value(`(() => { const { left, top, width, height } = document.querySelectorAll(".drum .cell .face")[${best}].getBoundingClientRect(); return [left + width / 2, top + height / 2].map(Math.round); })()`);
+    const [x, y] = await browser.value(
+        `(() => { const { left, top, width, height } = document.querySelectorAll(".drum .cell .face")[${best}].getBoundingClientRect(); return [left + width / 2, top + height / 2].map(Math.round); })()`
+    );
     await browser.lead([await middleOf(browser, ".drum .grip"), "down", [x, y], "up"]);
     const [, foretold] = /would have taken ([\d,]+) word times/.exec(await carriedTold(browser));
     await browser.press("#write-moved");
-    await notice(browser, new RegExp(`^wage is at \\d{4} now\\. The source was loaded and run: it took (${foretold} word times, as predicted\\.|[\\d,]+ word times, ${foretold} as predicted but for the wait)`));
+    await notice(
+        browser,
+        new RegExp(
+            `^wage is at \\d{4} now\\. The source was loaded and run: it took (${foretold} word times, as predicted\\.|[\\d,]+ word times, ${foretold} as predicted but for the wait)`
+        )
+    );
     const [, took] = /it took ([\d,]+) word times/.exec(await textOf(browser, "#notice"));
     assert.ok((await textOf(browser, ".costs-told")).includes(`took ${took} word times`), "the costs and the notice tell one number");
     assert.match(await browser.written(), new RegExp(`\n org \\d\\d${String(best).padStart(2, "0")}\nwage int 30 30\n {5}org 0021\nrent`));
@@ -436,27 +545,45 @@ async function costsOfSource() {
     await laboratory.command("press start");
     await laboratory.run();
     const { words } = await laboratory.askPlacing(WORDS.map(([address]) => address));
-    return { took: words[0].times, at: new Map(words.map(({ address, sectors }) => [address, new Map(sectors.map(({ sector, times }) => [sector, times]))])) };
+    return {
+        took: words[0].times,
+        at: new Map(words.map(({ address, sectors }) => [address, new Map(sectors.map(({ sector, times }) => [sector, times]))])),
+    };
 }
 
 const pinOf = (address) => `.drum .grip[data-word="${address}"]`;
-const cellOf = (browser, sector) => browser.value(`(() => { const { left, top, width, height } = document.querySelectorAll(".drum .cell .face")[${sector}].getBoundingClientRect(); return [left + width / 2, top + height / 2].map(Math.round); })()`);
+const cellOf = (browser, sector) => browser.value(
+    `(() => { const { left, top, width, height } = document.querySelectorAll(".drum .cell .face")[${sector}].getBoundingClientRect(); return [left + width / 2, top + height / 2].map(Math.round); })()`
+);
 
-/** What is told of words in Work and Learn is compared with the sum of what each of them saves, wherever they are. `places` has the words that are elsewhere, with their sectors. */
+/**
+ * What is told of words in Work and Learn is compared with the sum of what each of them saves, wherever they are. `places` has the words
+ * that are elsewhere, with their sectors.
+ */
 async function compared(browser, { took, at }, places) {
     const wanted = places.reduce((sum, [address, sector]) => sum + at.get(address).get(sector), took * (1 - places.length));
     const [difference, names] = [took - wanted, new Map(WORDS)];
-    const where = places.length === 1 ? `In sector ${String(places[0][1]).padStart(2, "0")}` : `With ${places.map(([address, sector]) => `${names.get(address)} in sector ${String(sector).padStart(2, "0")}`).join(", ")}`;
+    const where = places.length === 1
+        ? `In sector ${String(places[0][1]).padStart(2, "0")}`
+        : `With ${places.map(([address, sector]) => `${names.get(address)} in sector ${String(sector).padStart(2, "0")}`).join(", ")}`;
     const than = difference === 0 ? "as many as they took" : `${Math.abs(difference)} ${difference > 0 ? "fewer" : "more"}`;
     assert.equal(await carriedTold(browser), `${where} the same orders would have taken ${wanted} word times: ${than}.`);
-    for (const [address, sector] of places) assert.match(await browser.value(`document.querySelector(${JSON.stringify(pinOf(address))}).getAttribute("aria-valuetext")`), new RegExp(`^sector ${String(sector).padStart(2, "0")}: ${wanted} word times, `));
+    for (const [address, sector] of places) {
+        assert.match(
+            await browser.value(`document.querySelector(${JSON.stringify(pinOf(address))}).getAttribute("aria-valuetext")`),
+            new RegExp(`^sector ${String(sector).padStart(2, "0")}: ${wanted} word times, `)
+        );
+    }
     return wanted;
 }
 
 const bestOf = (costs, word) => [...costs.at.get(word)].sort(([, one], [, other]) => one - other)[0][0];
 
-/** In Work several words are carried at once, by keys, by a pin and by a cell: each stays where it is, and the number is that of all of them. They stay so in another language, after a step, and when
- * the page is loaded again. All are written into the source at once, and the run takes what was foretold. */
+/**
+ * In Work several words are carried at once, by keys, by a pin and by a cell: each stays where it is, and the number is that of all of
+ * them. They stay so in another language, after a step, and when the page is loaded again. All are written into the source at once, and the
+ * run takes what was foretold.
+ */
 async function carriedTogether(browser, address) {
     const costs = await costsOfSource();
     await browser.size(1440, 900);
@@ -466,7 +593,10 @@ async function carriedTogether(browser, address) {
     const places = [];
     for (const [word] of WORDS) {
         await browser.value(`laboratoryOfPage().askCosts("${word}")`);
-        await browser.waitFor(`document.querySelectorAll(".drum .grip").length === ${places.length + 1} && document.querySelector(${JSON.stringify(pinOf(word))}) !== null`);
+        await browser.waitFor(
+            `document.querySelectorAll(".drum .grip").length === ${places.length
+                + 1} && document.querySelector(${JSON.stringify(pinOf(word))}) !== null`
+        );
         await browser.value(`document.querySelector(${JSON.stringify(pinOf(word))}).focus()`);
         places.push([word, sectorOf(word)]);
         for (const key of ["ArrowRight", "PageUp", "ArrowRight", "PageUp", "ArrowLeft", "ArrowLeft", "ArrowLeft", "PageUp"]) {
@@ -480,27 +610,42 @@ async function carriedTogether(browser, address) {
             await compared(browser, costs, places);
         }
     }
-    assert.deepEqual(await browser.value("['laid', 'origin'].map((kind) => document.querySelectorAll(`.drum .cell.${kind}`).length)"), [3, 3]);
+    assert.deepEqual(
+        await browser.value("['laid', 'origin'].map((kind) => document.querySelectorAll(`.drum .cell.${kind}`).length)"), [3, 3]
+    );
     const foretold = await compared(browser, costs, places);
     await keptCarried(browser, costs, places);
     await browser.press("#write-moved");
-    await notice(browser, /^wage is at \d{4} now\. rent is at \d{4} now\. debt is at \d{4} now\. The source was loaded and run: it took [\d,]+ word times, (?:as pre|[\d,]+ as pre)dicted\.$/);
+    await notice(
+        browser,
+        /^wage is at \d{4} now\. rent is at \d{4} now\. debt is at \d{4} now\. The source was loaded and run: it took [\d,]+ word times, (?:as pre|[\d,]+ as pre)dicted\.$/
+    );
     const written = await browser.written();
-    for (const [word, sector] of places) assert.match(written, new RegExp(`org \\d\\d${String(sector).padStart(2, "0")}\n${new Map(WORDS).get(word)} int`));
+    for (const [word, sector] of places) {
+        assert.match(written, new RegExp(`org \\d\\d${String(sector).padStart(2, "0")}\n${new Map(WORDS).get(word)} int`));
+    }
     await browser.value("document.querySelector('.source .CodeMirror').CodeMirror.undo()");
     assert.equal(await browser.written(), LABELLED);
     await browser.size(1500, 1250);
     return `${foretold} word times in place of ${costs.took}`;
 }
 
-/** Words that are carried stay where they are in another language and when the page is loaded again; a word goes back alone, by its key, and all by the button. */
+/**
+ * Words that are carried stay where they are in another language and when the page is loaded again; a word goes back alone, by its key, and
+ * all by the button.
+ */
 async function keptCarried(browser, costs, places) {
     const language = async (code) => {
-        await browser.value(`(() => { const it = document.getElementById("language"); it.value = "${code}"; it.dispatchEvent(new Event("change")); })()`);
+        await browser.value(
+            `(() => { const it = document.getElementById("language"); it.value = "${code}"; it.dispatchEvent(new Event("change")); })()`
+        );
         await browser.waitFor(`document.documentElement.lang === "${code}" && document.querySelectorAll(".drum .grip").length === 3`);
     };
     await language("de");
-    assert.match(await carriedTold(browser), /^Mit wage in Sektor \d\d, rent in Sektor \d\d, debt in Sektor \d\d hätten dieselben Befehle \d+ Wortzeiten gebraucht: \d+ weniger\.$/);
+    assert.match(
+        await carriedTold(browser),
+        /^Mit wage in Sektor \d\d, rent in Sektor \d\d, debt in Sektor \d\d hätten dieselben Befehle \d+ Wortzeiten gebraucht: \d+ weniger\.$/
+    );
     await language("en");
     await compared(browser, costs, places);
     await browser.value("laboratoryOfPage().back(1)");
@@ -521,7 +666,10 @@ async function keptCarried(browser, costs, places) {
     await compared(browser, costs, places);
 }
 
-/** A word that an order names by its address is not written elsewhere; one that is an order, or that a changed order names, is not carried. Each says why. */
+/**
+ * A word that an order names by its address is not written elsewhere; one that is an order, or that a changed order names, is not carried.
+ * Each says why.
+ */
 async function notCarried(browser, address) {
     await browser.open(`${address}?lang=en&door=work`);
     await browser.write(SOURCE);
@@ -534,7 +682,10 @@ async function notCarried(browser, address) {
     assert.equal(await browser.written(), SOURCE);
     await browser.open(`${address}?lang=en#self-modifying`);
     await browser.value("laboratoryOfPage().run()");
-    for (const [word, why] of [["0009", "It is performed as an order. Elsewhere it would be another program."], ["0101", "The program works out this address itself."]]) {
+    for (const [word, why] of [
+        ["0009", "It is performed as an order. Elsewhere it would be another program."],
+        ["0101", "The program works out this address itself."],
+    ]) {
         await asksCosts(browser, word);
         assert.equal(await browser.value("document.querySelector('.drum .grip').tagName"), "BUTTON");
         await browser.press(".drum .grip");
@@ -542,7 +693,9 @@ async function notCarried(browser, address) {
     }
 }
 
-/** The lesson about places leads to its race, with one word, and from there to all five; its steps are where they were when one comes back. */
+/**
+ * The lesson about places leads to its race, with one word, and from there to all five; its steps are where they were when one comes back.
+ */
 async function race(browser, address) {
     const [wage] = PLACING_GAMES.get("race");
     const costs = await told(wage);
@@ -551,15 +704,31 @@ async function race(browser, address) {
     await browser.value("laboratoryOfPage().settled()");
     await browser.press("#race");
     await browser.waitFor(`document.body.hasAttribute('data-game') && ${isRead}`);
-    assert.deepEqual([await browser.value("location.search"), await timesIn(browser), await browser.value("document.querySelectorAll('.faster .grip').length")], ["?lang=en&game=race", 150_629, 1]);
+    assert.deepEqual(
+        [
+            await browser.value("location.search"),
+            await timesIn(browser),
+            await browser.value("document.querySelectorAll('.faster .grip').length"),
+        ],
+        ["?lang=en&game=race", 150_629, 1]
+    );
     await carry(browser, "0128", wayTo(costs, "0128"));
-    assert.deepEqual([await timesIn(browser), await leadIn(browser)], [125_541, "Nothing is faster with this word. The same orders, the same result: 150,629 word times became 125,541, which is 392 turns of the drum less."]);
+    assert.deepEqual(
+        [await timesIn(browser), await leadIn(browser)],
+        [
+            125_541,
+            "Nothing is faster with this word. The same orders, the same result: 150,629 word times became 125,541, which is 392 turns of the drum less.",
+        ]
+    );
     await browser.press("#faster-another");
     await browser.waitFor(`${isRead} && document.querySelectorAll('.faster .grip').length === 5`);
     await browser.press("#back-to-lesson");
     await browser.waitFor("document.body.dataset.door === 'learn'");
     await browser.value("laboratoryOfPage().settled()");
-    assert.deepEqual(await browser.value("[location.search, document.querySelectorAll('.lesson li.now').length, laboratoryOfPage().panel.counter]"), ["?lang=en&lesson=where-a-word-costs-least&step=1", 1, "0200"]);
+    assert.deepEqual(
+        await browser.value("[location.search, document.querySelectorAll('.lesson li.now').length, laboratoryOfPage().panel.counter]"),
+        ["?lang=en&lesson=where-a-word-costs-least&step=1", 1, "0200"]
+    );
 }
 
 /** All of the game has a name and can be read and reached, in light and dark. */
@@ -580,16 +749,24 @@ async function reached(browser, address) {
     return undefined;
 }
 
-/** The drum of Work or Learn as it is turned: what the slider says, whether an order is under way, the machine's clock, and the ring's angle. */
+/**
+ * The drum of Work or Learn as it is turned: what the slider says, whether an order is under way, the machine's clock, and the ring's
+ * angle.
+ */
 const turnedNow = (browser) => browser.value(`(() => {
     const turner = document.querySelector(".drum .turner");
     return { says: turner.getAttribute("aria-valuetext"), isMoving: document.querySelector(".drum-box").dataset.moving === "true", clock: Number(laboratoryOfPage().panel.clock), angle: document.querySelector(".drum .ring").style.transform, count: document.querySelector(".drum .hub-count").textContent, behind: laboratoryOfPage().history.behind };
 })()`);
 
 /** Waits until the drum stands at a clock, and a number of orders has been done. */
-const standsAt = (browser, clock, orders) => browser.waitFor(`/^clock ${clock}(, |$)/.test(document.querySelector(".drum .turner").getAttribute("aria-valuetext")) && laboratoryOfPage().history.behind === ${orders}`);
+const standsAt = (browser, clock, orders) => browser.waitFor(
+    `/^clock ${clock}(, |$)/.test(document.querySelector(".drum .turner").getAttribute("aria-valuetext")) && laboratoryOfPage().history.behind === ${orders}`
+);
 
-/** By keys the drum turns on and back, place by place and order by order, on through orders that are performed and back through those that were; where it cannot go it says so. */
+/**
+ * By keys the drum turns on and back, place by place and order by order, on through orders that are performed and back through those that
+ * were; where it cannot go it says so.
+ */
 async function turnedByKeys(browser, address) {
     await browser.open(`${address}?lang=en#self-modifying`);
     await browser.value("laboratoryOfPage().settled()");
@@ -640,7 +817,9 @@ const onRing = (browser, degrees) => browser.value(`(() => {
 async function heldInStory(browser, address) {
     for (let tries = 0; ; tries += 1) {
         await browser.open(`${address}?lang=en&story=1`);
-        await browser.waitFor("document.querySelector('.drum-box').dataset.moving === 'true' && Number(document.querySelector('.drum .hub-count').textContent) > 0 && /[1-9]/.test(document.querySelector('.drum .hub-clock').textContent)");
+        await browser.waitFor(
+            "document.querySelector('.drum-box').dataset.moving === 'true' && Number(document.querySelector('.drum .hub-count').textContent) > 0 && /[1-9]/.test(document.querySelector('.drum .hub-clock').textContent)"
+        );
         await browser.lead([await onRing(browser, 200), "down", "up"]);
         await browser.value("laboratoryOfPage().settled()");
         const seen = [await turnedNow(browser), await turnedNow(browser)];
@@ -648,12 +827,17 @@ async function heldInStory(browser, address) {
     }
 }
 
-/** A drag to the left leads on, one to the right back: as many word times as the hand has turned, over the ends of orders. A hand that takes the drum while it turns holds it. */
+/**
+ * A drag to the left leads on, one to the right back: as many word times as the hand has turned, over the ends of orders. A hand that takes
+ * the drum while it turns holds it.
+ */
 async function turnedByDrag(browser, address) {
     await browser.size(1440, 900);
     await browser.open(`${address}?lang=en&lesson=rewriting&step=11`);
     await browser.value("laboratoryOfPage().settled()");
-    const circle = async (from, to, step) => { for (let angle = from; step > 0 ? angle <= to : angle >= to; angle += step) await browser.lead([await onRing(browser, angle)]); };
+    const circle = async (from, to, step) => {
+        for (let angle = from; step > 0 ? angle <= to : angle >= to; angle += step) await browser.lead([await onRing(browser, angle)]);
+    };
     await browser.lead([await onRing(browser, 90), "down"]);
     await circle(90, -270, -15);
     await browser.waitFor("document.querySelector('.drum-box').dataset.turned === '+64 word times'");
@@ -680,7 +864,13 @@ async function turnedByDrag(browser, address) {
     return undefined;
 }
 
-const VISITS = { carried, carriedTogether, notCarried, turnedByKeys, turnedByDrag, fasterExact: exact, fasterPlayed: played, fasterOver: over, fasterFinger: finger, fasterWatched: watched, fasterSizes: sizes, fasterTelephone: telephone, fasterReached: reached, fasterKiosk: kiosk, kioskUpright, race };
+const VISITS = {
+    carried, carriedTogether, notCarried, turnedByKeys, turnedByDrag, fasterExact: exact, fasterPlayed: played, fasterOver: over,
+    fasterFinger: finger, fasterWatched: watched, fasterSizes: sizes, fasterTelephone: telephone, fasterReached: reached,
+    fasterKiosk: kiosk, kioskUpright, race,
+};
 
 /** The visits of the drum in the hand, of the page at an address, by their names. */
-export const visitsOfHand = (address) => Object.fromEntries(Object.entries(VISITS).map(([name, visit]) => [name, (browser) => visit(browser, address)]));
+export const visitsOfHand = (address) => (
+    Object.fromEntries(Object.entries(VISITS).map(([name, visit]) => [name, (browser) => visit(browser, address)]))
+);

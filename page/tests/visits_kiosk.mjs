@@ -1,4 +1,5 @@
-// Visits of the kiosk as an exhibit: it keeps nothing and touches nothing, it is left by its address or a key combination alone, it comes back to its beginning in its own language, and it fits its window.
+// Visits of the kiosk as an exhibit: it keeps nothing and touches nothing, it is left by its address or a key combination alone, it comes
+// back to its beginning in its own language, and it fits its window.
 import assert from "node:assert/strict";
 import { hiddenTexts, laidOut, numbersOf, unhit } from "./seen.mjs";
 
@@ -6,9 +7,13 @@ const settled = (browser) => browser.value("laboratoryOfPage().settled()");
 const toldIn = (browser) => browser.value("document.querySelector('.kiosk-told').textContent");
 const isKiosk = "document.querySelector('.kiosk-bar') !== null";
 export const isAttract = "document.body.dataset.state === 'attract'";
-const panelOf = (browser) => browser.value("(({ counter, status, clock }) => ({ counter, status, clock: String(clock) }))(laboratoryOfPage().panel)");
+const panelOf = (browser) => (
+    browser.value("(({ counter, status, clock }) => ({ counter, status, clock: String(clock) }))(laboratoryOfPage().panel)")
+);
 
-const strike = (browser, key, more = {}) => browser.value(`void document.body.dispatchEvent(new KeyboardEvent("keydown", { key: ${JSON.stringify(key)}, bubbles: true, ...${JSON.stringify(more)} }))`);
+const strike = (browser, key, more = {}) => browser.value(
+    `void document.body.dispatchEvent(new KeyboardEvent("keydown", { key: ${JSON.stringify(key)}, bubbles: true, ...${JSON.stringify(more)} }))`
+);
 const leave = (browser) => strike(browser, "L", { ctrlKey: true, shiftKey: true });
 
 /** `Kiosk`, pressed in Work, has a machine of its own: the work is as it was, whether the kiosk is left by keys or by Back. */
@@ -24,16 +29,34 @@ async function kioskBeside(browser, address) {
         assert.match(await browser.value("location.search"), /kiosk=self-modifying/);
         await strike(browser, "1");
         await browser.waitFor("laboratoryOfPage().history.behind === 1");
-        await browser.waitFor("document.querySelector('.rewriting')?.textContent === 'The program has rewritten itself: r 0017 at 0000 turned u 0000 at 0017 into u 0002.'");
-        assert.deepEqual(await browser.value("[document.querySelectorAll('#leave-kiosk, #page a').length, document.getElementById('progress').checkVisibility()]"), [0, false]);
+        await browser.waitFor(
+            "document.querySelector('.rewriting')?.textContent === 'The program has rewritten itself: r 0017 at 0000 turned u 0000 at 0017 into u 0002.'"
+        );
+        assert.deepEqual(
+            await browser.value(
+                "[document.querySelectorAll('#leave-kiosk, #page a').length, document.getElementById('progress').checkVisibility()]"
+            ),
+            [0, false]
+        );
         await go(browser);
         await browser.waitFor("document.querySelector('.source .CodeMirror') !== null");
         await settled(browser);
-        assert.deepEqual([await panelOf(browser), await browser.value("[document.querySelector('.source .CodeMirror').CodeMirror.getValue(), document.body.dataset.door, location.hash]")], [before, ["; mine", "work", "#self-modifying"]]);
+        assert.deepEqual(
+            [
+                await panelOf(browser),
+                await browser.value(
+                    "[document.querySelector('.source .CodeMirror').CodeMirror.getValue(), document.body.dataset.door, location.hash]"
+                ),
+            ],
+            [before, ["; mine", "work", "#self-modifying"]]
+        );
     }
 }
 
-/** After the idle time the exhibit is at its beginning, in its own language and silent; keys from 1 to 4 press its buttons, and others do nothing. */
+/**
+ * After the idle time the exhibit is at its beginning, in its own language and silent; keys from 1 to 4 press its buttons, and others do
+ * nothing.
+ */
 async function kioskReturns(browser, address) {
     await browser.open(`${address}?kiosk=message&lang=de&idle=2`);
     await browser.waitFor(isAttract);
@@ -48,7 +71,12 @@ async function kioskReturns(browser, address) {
     await browser.waitFor(isAttract);
     await settled(browser);
     await browser.waitFor("document.documentElement.lang === 'de'");
-    assert.deepEqual(await browser.value("[document.querySelector('#kiosk-1').textContent, document.querySelector('#sound').getAttribute('aria-pressed'), laboratoryOfPage().printed.text]"), [german, "false", ""]);
+    assert.deepEqual(
+        await browser.value(
+            "[document.querySelector('#kiosk-1').textContent, document.querySelector('#sound').getAttribute('aria-pressed'), laboratoryOfPage().printed.text]"
+        ),
+        [german, "false", ""]
+    );
     await browser.open(`${address}?kiosk=message&offers=story,matches&lang=en`);
     for (const key of ["x", "Enter", " ", "F5", "5", "0"]) await strike(browser, key);
     assert.equal(await browser.value("document.body.dataset.state"), "attract");
@@ -60,14 +88,24 @@ async function kioskReturns(browser, address) {
     await browser.waitFor("laboratoryOfPage().history.behind === 2");
     await strike(browser, "4");
     await browser.waitFor(isAttract);
-    for (const kind of ["contextmenu", "dragstart", "selectstart"]) assert.equal(await browser.value(`document.querySelector('.kiosk-told').dispatchEvent(new Event('${kind}', { bubbles: true, cancelable: true }))`), false, kind);
+    for (const kind of ["contextmenu", "dragstart", "selectstart"]) {
+        assert.equal(
+            await browser.value(
+                `document.querySelector('.kiosk-told').dispatchEvent(new Event('${kind}', { bubbles: true, cancelable: true }))`
+            ),
+            false,
+            kind
+        );
+    }
     await leave(browser);
     await browser.waitFor("document.querySelector('.hall') !== null && document.documentElement.dataset.ready === 'true'");
     await browser.open(`${address}?lang=en&door=work`);
 }
 
 /** All that is kept in the browser. */
-export const keptIn = (browser) => browser.value(`new Promise((resolve) => { const it = indexedDB.open("condugwa"); it.onsuccess = () => { const store = it.result.transaction("kept").objectStore("kept"); const [keys, values] = [store.getAllKeys(), store.getAll()]; values.onsuccess = () => { it.result.close(); resolve([keys.result, JSON.stringify(values.result), Object.entries(localStorage).sort()]); }; }; })`);
+export const keptIn = (browser) => browser.value(
+    `new Promise((resolve) => { const it = indexedDB.open("condugwa"); it.onsuccess = () => { const store = it.result.transaction("kept").objectStore("kept"); const [keys, values] = [store.getAllKeys(), store.getAll()]; values.onsuccess = () => { it.result.close(); resolve([keys.result, JSON.stringify(values.result), Object.entries(localStorage).sort()]); }; }; })`
+);
 
 /** The kiosk keeps nothing: what was kept before is as it was. */
 async function kioskKeepsNothing(browser, address) {
@@ -97,13 +135,22 @@ export function chance(seed) {
 /** How many keys and touches a visitor at random has. */
 const TOUCHES = 1000;
 
-/** A visitor presses keys and touches places at random: the kiosk is in one of its states, with four buttons, at its own address, and the paper is what its program prints. */
+/**
+ * A visitor presses keys and touches places at random: the kiosk is in one of its states, with four buttons, at its own address, and the
+ * paper is what its program prints.
+ */
 async function kioskAtRandom(browser, address) {
     await browser.size(1024, 768);
     await browser.open(`${address}?kiosk=message&lang=en`);
-    const [before, among, keys] = [await browser.value("location.href"), chance(7), ["1", "2", "2", "2", "3", "4", "x", "Enter", "Escape", "F5", "Backspace", "ArrowLeft"]];
+    const [before, among, keys] = [
+        await browser.value("location.href"),
+        chance(7),
+        ["1", "2", "2", "2", "3", "4", "x", "Enter", "Escape", "F5", "Backspace", "ArrowLeft"],
+    ];
     for (let done = 0; done < TOUCHES; done += 20) {
-        const touches = Array.from({ length: 20 }, () => (among(2) === 0 ? { key: keys[among(keys.length)] } : { x: among(1024), y: among(768) }));
+        const touches = Array.from(
+            { length: 20 }, () => (among(2) === 0 ? { key: keys[among(keys.length)] } : { x: among(1024), y: among(768) })
+        );
         await browser.value(`(async () => {
             for (const { key, x, y } of ${JSON.stringify(touches)}) {
                 if (key === undefined) document.elementFromPoint(x, y)?.dispatchEvent(new MouseEvent("click", { bubbles: true, cancelable: true, clientX: x, clientY: y }));
@@ -111,9 +158,15 @@ async function kioskAtRandom(browser, address) {
                 await new Promise((resolve) => setTimeout(resolve));
             }
         })()`);
-        const [state, buttons, href, paper, program] = await browser.value("[document.body.dataset.state, document.querySelectorAll('.kiosk-bar button').length, location.href, laboratoryOfPage().printed.text, laboratoryOfPage().script.name]");
+        const [
+            state, buttons, href, paper, program
+        ] = await browser.value(
+            "[document.body.dataset.state, document.querySelectorAll('.kiosk-bar button').length, location.href, laboratoryOfPage().printed.text, laboratoryOfPage().script.name]"
+        );
         assert.ok(["attract", "story", "show", "end", "matches", "faster"].includes(state), `${state}`);
-        assert.deepEqual([buttons, href, program === "games/matches" || "good day".startsWith(paper.trim())], [4, before, true], `${program}: ${paper}`);
+        assert.deepEqual(
+            [buttons, href, program === "games/matches" || "good day".startsWith(paper.trim())], [4, before, true], `${program}: ${paper}`
+        );
     }
     await browser.open(`${address}?lang=en&door=work`);
     await browser.size(1500, 1250);
@@ -122,7 +175,9 @@ async function kioskAtRandom(browser, address) {
 
 /** On telephones and tablets no text of the kiosk lies upon another one or beyond the window, and the drum lies on none. */
 async function kioskOnTelephones(browser, address) {
-    for (const kind of ["message", "games/matches"]) for (const [width, height] of [[390, 800], [360, 640], [800, 360], [768, 1024], [1024, 768], [1920, 1080]]) {
+    for (const kind of ["message", "games/matches"]) for (const [width, height] of [
+        [390, 800], [360, 640], [800, 360], [768, 1024], [1024, 768], [1920, 1080],
+    ]) {
         await browser.size(width, height);
         await browser.open(`${address}?kiosk=${kind}&lang=de`);
         await browser.press(".kiosk-told");
@@ -156,12 +211,17 @@ async function kioskCaptions(browser, address) {
 
 /** What leads to each state of the kiosk, and what holds there. */
 const STATES = {
-    attract: [[], isAttract], story: [["1", "2", "2"], "laboratoryOfPage().history.behind === 3"], matches: [["3"], "laboratoryOfPage().way.kind === 'keys'"],
+    attract: [[], isAttract],
+    story: [["1", "2", "2"], "laboratoryOfPage().history.behind === 3"],
+    matches: [["3"], "laboratoryOfPage().way.kind === 'keys'"],
     end: [["1"], "document.body.dataset.state === 'end' && laboratoryOfPage().panel.status === 'halted stop'"],
     faster: [["2"], "document.body.dataset.state === 'faster' && document.querySelector('.faster').getAttribute('aria-busy') === 'false'"],
 };
 
-/** In each state, on lying and upright screens, no text is too small, cut off or upon another one, each of the four buttons is there and is hit by itself, its number is by its text, and one at most stands out. */
+/**
+ * In each state, on lying and upright screens, no text is too small, cut off or upon another one, each of the four buttons is there and is
+ * hit by itself, its number is by its text, and one at most stands out.
+ */
 async function kioskSeen(browser, address) {
     for (const code of ["en", "de"]) for (const [state, [keys, holds]] of Object.entries(STATES)) {
         await browser.size(1366, 768);
@@ -180,8 +240,16 @@ async function kioskSeen(browser, address) {
             await browser.size(width, height);
             await laidOut(browser);
             assert.deepEqual([...await hiddenTexts(browser), ...await unhit(browser)], [], `${code}, ${state} at ${width} by ${height}`);
-            assert.deepEqual(await browser.value("[[...document.querySelectorAll('.kiosk-bar button')].filter((it) => it.textContent !== '' && it.checkVisibility({ visibilityProperty: true })).length, document.documentElement.scrollHeight <= innerHeight]"), [4, true]);
-            assert.ok(await browser.value("[...document.querySelectorAll('.primary')].filter((it) => it.checkVisibility()).length <= 1"), `${code}, ${state} at ${width} by ${height}: more than one button stands out`);
+            assert.deepEqual(
+                await browser.value(
+                    "[[...document.querySelectorAll('.kiosk-bar button')].filter((it) => it.textContent !== '' && it.checkVisibility({ visibilityProperty: true })).length, document.documentElement.scrollHeight <= innerHeight]"
+                ),
+                [4, true]
+            );
+            assert.ok(
+                await browser.value("[...document.querySelectorAll('.primary')].filter((it) => it.checkVisibility()).length <= 1"),
+                `${code}, ${state} at ${width} by ${height}: more than one button stands out`
+            );
         }
     }
     await browser.open(`${address}?lang=en&door=work`);
@@ -194,7 +262,10 @@ export const smallTexts = (browser) => browser.value(`[...document.querySelector
     return parseFloat(getComputedStyle(it).fontSize) * scale < 17.9;
 }).map((it) => it.textContent.trim().slice(0, 30) + " of " + (it.getAttribute("class") ?? it.tagName))`);
 
-/** In windows of usual sizes what is told at the kiosk can be read from some steps away: while it plays by itself, in its story and at its end, in the game with the drum, and with the matches. */
+/**
+ * In windows of usual sizes what is told at the kiosk can be read from some steps away: while it plays by itself, in its story and at its
+ * end, in the game with the drum, and with the matches.
+ */
 async function kioskLetters(browser, address) {
     for (const [code, state, keys] of [["de", "attract", ""], ["de", "story", "122"], ["de", "faster", "2"], ["en", "matches", "3"]]) {
         await browser.open(`${address}?kiosk=message&lang=${code}&idle=900`);
@@ -216,4 +287,6 @@ async function kioskLetters(browser, address) {
 const VISITS = { kioskLetters, kioskSeen, kioskBeside, kioskReturns, kioskKeepsNothing, kioskAtRandom, kioskOnTelephones, kioskCaptions };
 
 /** The visits of the page at an address, by their names. */
-export const visitsOfKiosk = (address) => Object.fromEntries(Object.entries(VISITS).map(([name, visit]) => [name, (browser) => visit(browser, address)]));
+export const visitsOfKiosk = (address) => (
+    Object.fromEntries(Object.entries(VISITS).map(([name, visit]) => [name, (browser) => visit(browser, address)]))
+);

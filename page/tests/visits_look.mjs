@@ -1,4 +1,5 @@
-// Visits of Look: in every caption of every story head, caption, Next and the row that changes are in one window, on each screen; and what is told is true of what is shown.
+// Visits of Look: in every caption of every story head, caption, Next and the row that changes are in one window, on each screen; and what
+// is told is true of what is shown.
 import assert from "node:assert/strict";
 import { TALES } from "../views/tales.mjs";
 import { boxes, hiddenTexts, laidOut, numbersOf, unhit, unseenAtLast } from "./seen.mjs";
@@ -6,14 +7,20 @@ import { boxes, hiddenTexts, laidOut, numbersOf, unhit, unseenAtLast } from "./s
 const settled = (browser) => browser.value("laboratoryOfPage().settled()");
 const SIZES = [[1366, 768], [1280, 720], [1024, 768], [390, 844]];
 
-/** The rows that a caption is about: the next order, and what the last one has written, as far as it is among the words around the counter. */
-const rowsOf = (browser) => browser.value("(({ panel, accounts, words }) => [panel.counter, accounts.at(-1)?.stored?.address].filter((it) => words.some(({ address }) => address === it)).map((address) => `tr[data-address='${address}']`))(laboratoryOfPage())");
+/**
+ * The rows that a caption is about: the next order, and what the last one has written, as far as it is among the words around the counter.
+ */
+const rowsOf = (browser) => browser.value(
+    "(({ panel, accounts, words }) => [panel.counter, accounts.at(-1)?.stored?.address].filter((it) => words.some(({ address }) => address === it)).map((address) => `tr[data-address='${address}']`))(laboratoryOfPage())"
+);
 
 /** Goes to a caption, to the first one by its address and to the others by Next, with what it plays played to its end. */
 async function caption(browser, address, code, story, at) {
     if (at === 1) await browser.open(`${address}?lang=${code}&story=${story}`);
     else await browser.press("#caption-next");
-    await browser.waitFor(`document.querySelector('.caption-at').textContent.startsWith('${at} ') && document.querySelector('.caption').getAttribute('aria-busy') === 'false'`);
+    await browser.waitFor(
+        `document.querySelector('.caption-at').textContent.startsWith('${at} ') && document.querySelector('.caption').getAttribute('aria-busy') === 'false'`
+    );
     await settled(browser);
     for (let halts = 0; halts < 2; halts += 1) {
         await browser.halt();
@@ -21,7 +28,10 @@ async function caption(browser, address, code, story, at) {
     }
 }
 
-/** Head, caption, Next and the rows that a caption is about are seen together. What a program does that runs on is stopped at any of its orders. */
+/**
+ * Head, caption, Next and the rows that a caption is about are seen together. What a program does that runs on is stopped at any of its
+ * orders.
+ */
 async function together(browser, address) {
     for (const code of ["en", "de"]) for (const [story, { plays, name }] of TALES.entries()) for (const at of plays.keys()) {
         await caption(browser, address, code, story + 1, at + 1);
@@ -29,20 +39,50 @@ async function together(browser, address) {
             await browser.size(width, height);
             const where = `${name}, caption ${at + 1}, ${code}, at ${width} by ${height}`;
             const rows = TALES[story].runs && at === plays.length - 1 ? [] : await rowsOf(browser);
-            assert.deepEqual(await unseenAtLast(browser, [...(width > 760 ? [".head-name"] : []), ".hub-phase", ".caption", ".telling > .line button:first-of-type", "#caption-next", ...rows]), [], where);
-            assert.deepEqual([await browser.value("[scrollY, document.documentElement.scrollHeight <= innerHeight, document.documentElement.scrollWidth <= innerWidth]"), ...await hiddenTexts(browser), ...await unhit(browser)], [[0, true, true]], where);
+            assert.deepEqual(
+                await unseenAtLast(browser, [
+                    ...(width > 760 ? [".head-name"] : []), ".hub-phase", ".caption", ".telling > .line button:first-of-type",
+                    "#caption-next", ...rows,
+                ]),
+                [],
+                where
+            );
+            assert.deepEqual(
+                [
+                    await browser.value(
+                        "[scrollY, document.documentElement.scrollHeight <= innerHeight, document.documentElement.scrollWidth <= innerWidth]"
+                    ),
+                    ...await hiddenTexts(browser),
+                    ...await unhit(browser),
+                ],
+                [[0, true, true]],
+                where
+            );
             assert.ok(await numbersOf(browser) >= 9.95, where);
-            assert.deepEqual(await browser.value("[...document.querySelectorAll('.words-table td.told')].filter((it) => it.checkVisibility() && it.scrollWidth > it.clientWidth + 1).map((it) => it.textContent)"), [], `${where}: what is said of a word is cut`);
+            assert.deepEqual(
+                await browser.value(
+                    "[...document.querySelectorAll('.words-table td.told')].filter((it) => it.checkVisibility() && it.scrollWidth > it.clientWidth + 1).map((it) => it.textContent)"
+                ),
+                [],
+                `${where}: what is said of a word is cut`
+            );
         }
     }
     await browser.size(1500, 1250);
 }
 
-/** Look plays its first story by itself, with Back and Next; a story that prints shows the paper in place of the accumulator, and an act of many turns says that it passes faster. */
+/**
+ * Look plays its first story by itself, with Back and Next; a story that prints shows the paper in place of the accumulator, and an act of
+ * many turns says that it passes faster.
+ */
 async function printing(browser, address) {
     await browser.open(`${address}?lang=en&door=look`);
-    const seen = () => browser.value("['.paper', '.scope', '#caption-next', '.pace', '.console', '.flexo-body'].filter((it) => document.querySelector(it)?.checkVisibility())");
-    await browser.waitFor("document.querySelector('.caption-at').textContent === '1 of 5' && document.querySelector('.drum-box').dataset.moving === 'true'");
+    const seen = () => browser.value(
+        "['.paper', '.scope', '#caption-next', '.pace', '.console', '.flexo-body'].filter((it) => document.querySelector(it)?.checkVisibility())"
+    );
+    await browser.waitFor(
+        "document.querySelector('.caption-at').textContent === '1 of 5' && document.querySelector('.drum-box').dataset.moving === 'true'"
+    );
     assert.deepEqual(await seen(), [".scope", "#caption-next"]);
     await browser.open(`${address}?lang=en&story=2`);
     assert.deepEqual(await seen(), [".scope", "#caption-next"]);
@@ -60,14 +100,20 @@ async function gameAfterStories(browser, address) {
     await settled(browser);
     await browser.waitFor("document.querySelector('#caption-next').textContent === 'Make it faster'");
     await browser.press("#caption-next");
-    await browser.waitFor("document.querySelector('.faster')?.getAttribute('aria-busy') === 'false' && document.body.hasAttribute('data-game')");
+    await browser.waitFor(
+        "document.querySelector('.faster')?.getAttribute('aria-busy') === 'false' && document.body.hasAttribute('data-game')"
+    );
     const [colours, said] = [new Set(), new Set()];
     for (const word of ["0021", "0022", "0024"]) for (let place = 0; place < 64; place += 1) {
         if (place === 0) await browser.value(`document.querySelector('.faster .grip[data-word="${word}"]').focus()`);
         await browser.strike("ArrowRight");
-        const [told, cells] = await browser.value("[document.querySelector('.game .lead').textContent, [...document.querySelectorAll('.faster .round td:last-child')].filter((it) => it.textContent !== '').map((it) => [it.textContent[0], getComputedStyle(it).color].join(' '))]");
+        const [told, cells] = await browser.value(
+            "[document.querySelector('.game .lead').textContent, [...document.querySelectorAll('.faster .round td:last-child')].filter((it) => it.textContent !== '').map((it) => [it.textContent[0], getComputedStyle(it).color].join(' '))]"
+        );
         for (const cell of cells) colours.add(cell);
-        if (/saves nothing|more than at first/.test(told)) said.add(/ For \w at \d{4} it comes \d+ places? too (late|early)/.exec(told)?.[1] ?? told);
+        if (/saves nothing|more than at first/.test(told)) {
+            said.add(/ For \w at \d{4} it comes \d+ places? too (late|early)/.exec(told)?.[1] ?? told);
+        }
     }
     const [more, less] = ["+", "−"].map((sign) => [...colours].filter((it) => it.startsWith(sign)).map((it) => it.slice(2)));
     assert.deepEqual([more.length, less.length, more[0] === less[0]], [1, 1, false], [...colours].join("; "));
@@ -77,17 +123,24 @@ async function gameAfterStories(browser, address) {
 /** The drum of the hall can be taken at once: a turn by hand is told, and a while after it the drum goes on. */
 async function hallDrum(browser, address) {
     await browser.open(`${address}?lang=en&door=hall`);
-    const [x, y] = await browser.value("(({ left, top, width, height }) => [left + width * 0.9, top + height / 2].map(Math.round))(document.querySelector('.drum-box .well').getBoundingClientRect())");
+    const [x, y] = await browser.value(
+        "(({ left, top, width, height }) => [left + width * 0.9, top + height / 2].map(Math.round))(document.querySelector('.drum-box .well').getBoundingClientRect())"
+    );
     await browser.lead([[x, y], "down", [x - 8, y + 60], [x - 30, y + 120]]);
     assert.match(await browser.value("document.querySelector('.drum-box').dataset.turned ?? ''"), /^[+−]\d+ word times$/);
     assert.equal(await browser.value("document.querySelector('#hall-stop').textContent"), "Let it turn");
     await browser.lead(["up"]);
-    await browser.waitFor("document.querySelector('.drum-box').dataset.moving === 'true' && document.querySelector('#hall-stop').textContent === 'Stop'");
+    await browser.waitFor(
+        "document.querySelector('.drum-box').dataset.moving === 'true' && document.querySelector('#hall-stop').textContent === 'Stop'"
+    );
     await browser.press("#hall-stop");
     await settled(browser);
 }
 
-/** Holds back what the page sends to its laboratories, from the first line on that opens a source or puts a word in, until `letGo` is called: the machine is not there yet, however fast it would be. */
+/**
+ * Holds back what the page sends to its laboratories, from the first line on that opens a source or puts a word in, until `letGo` is
+ * called: the machine is not there yet, however fast it would be.
+ */
 const HOLDS_BACK = `(() => {
     const [Real, held] = [globalThis.Worker, []];
     let isHeld = false;
@@ -110,7 +163,10 @@ async function captionsWait(browser, address) {
         await browser.navigate("about:blank");
         await browser.navigate(`${address}?lang=en&story=2&caption=3`);
         await browser.waitFor("document.querySelector('.caption')?.getAttribute('aria-busy') === 'true'");
-        assert.deepEqual(await browser.value("[document.querySelector('.caption').textContent, document.querySelector('.caption-at').textContent]"), ["", "3 of 5"]);
+        assert.deepEqual(
+            await browser.value("[document.querySelector('.caption').textContent, document.querySelector('.caption-at').textContent]"),
+            ["", "3 of 5"]
+        );
         await browser.value("void letGo()");
         await browser.waitFor("document.querySelector('.caption').textContent.startsWith('… adds one to the address')");
         assert.notEqual(await browser.value("laboratoryOfPage().words[0].digits"), "00000000");
@@ -121,7 +177,8 @@ async function captionsWait(browser, address) {
 }
 
 /** What is told of the machine, where it is. */
-const TELLS = ".fixed text:not(.head-name), .pin, .words-table td, .trace-value code, .kiosk-told, .way, .when, .told-tabs p, .story p, .score, .caption";
+const TELLS =
+    ".fixed text:not(.head-name), .pin, .words-table td, .trace-value code, .kiosk-told, .way, .when, .told-tabs p, .story p, .score, .caption";
 
 /** Until the machine is there nothing is told of it, in no section; and nothing that can be seen moves when it is there. */
 async function quietAtFirst(browser, address) {
@@ -133,11 +190,24 @@ async function quietAtFirst(browser, address) {
             await browser.navigate(`${address}?lang=de&${behind}`);
             await browser.waitFor("isHeldBack()");
             await laidOut(browser);
-            assert.deepEqual(await browser.value(`[...document.querySelectorAll(${JSON.stringify(TELLS)})].filter((it) => it.textContent.trim() !== "" && it.checkVisibility({ visibilityProperty: true })).map((it) => it.textContent)`), [], behind);
-            const placesNow = async () => [...await boxes(browser), ...await browser.value("[...document.querySelectorAll('.listing, .sheet, .game > *')].filter((it) => it.checkVisibility({ visibilityProperty: true }) && it.textContent !== '').map((it) => `${it.className} ${Math.round(it.getBoundingClientRect().top)}`)")];
+            assert.deepEqual(
+                await browser.value(
+                    `[...document.querySelectorAll(${JSON.stringify(TELLS)})].filter((it) => it.textContent.trim() !== "" && it.checkVisibility({ visibilityProperty: true })).map((it) => it.textContent)`
+                ),
+                [],
+                behind
+            );
+            const placesNow = async () => [
+                ...await boxes(browser),
+                ...await browser.value(
+                    "[...document.querySelectorAll('.listing, .sheet, .game > *')].filter((it) => it.checkVisibility({ visibilityProperty: true }) && it.textContent !== '').map((it) => `${it.className} ${Math.round(it.getBoundingClientRect().top)}`)"
+                ),
+            ];
             const before = await placesNow();
             await browser.value("void letGo()");
-            await browser.waitFor("document.documentElement.dataset.ready === 'true' && [...document.querySelectorAll('.faster[aria-busy=true]')].every((it) => !it.checkVisibility())");
+            await browser.waitFor(
+                "document.documentElement.dataset.ready === 'true' && [...document.querySelectorAll('.faster[aria-busy=true]')].every((it) => !it.checkVisibility())"
+            );
             const after = new Set(await placesNow());
             assert.deepEqual(before.filter((it) => !after.has(it)), [], behind);
         }
@@ -155,7 +225,8 @@ async function namesAtOnce(browser, address) {
         await browser.navigate("about:blank");
         await browser.navigate(`${address}?lang=en&game=faster`);
         await browser.waitFor("document.querySelector('#faster-why')?.checkVisibility()");
-        const nameless = "[...document.querySelectorAll('#page button')].filter((it) => it.checkVisibility() && it.textContent.trim() === '' && it.getAttribute('aria-label') === null).map(({ id }) => id)";
+        const nameless =
+            "[...document.querySelectorAll('#page button')].filter((it) => it.checkVisibility() && it.textContent.trim() === '' && it.getAttribute('aria-label') === null).map(({ id }) => id)";
         assert.deepEqual(await browser.value(`[document.querySelector('.faster').getAttribute('aria-busy'), ${nameless}]`), ["true", []]);
         await browser.value("void letGo()");
         await browser.waitFor("document.querySelector('.faster').getAttribute('aria-busy') === 'false'");
@@ -169,4 +240,6 @@ async function namesAtOnce(browser, address) {
 const VISITS = { captionsWait, namesAtOnce, quietAtFirst, gameAfterStories, hallDrum, lookTogether: together, lookPrinting: printing };
 
 /** The visits of Look, by their names. */
-export const visitsOfLook = (address) => Object.fromEntries(Object.entries(VISITS).map(([name, visit]) => [name, (browser) => visit(browser, address)]));
+export const visitsOfLook = (address) => (
+    Object.fromEntries(Object.entries(VISITS).map(([name, visit]) => [name, (browser) => visit(browser, address)]))
+);

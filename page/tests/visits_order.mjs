@@ -1,4 +1,5 @@
-// Visits of the order under way: at each picture the list, the ring, its pin, the hub, the register and what is told speak of one order, which is one that the monitor has told.
+// Visits of the order under way: at each picture the list, the ring, its pin, the hub, the register and what is told speak of one order,
+// which is one that the monitor has told.
 import assert from "node:assert/strict";
 import { KIOSK } from "../exhibit.mjs";
 import { checkOf, examples } from "./exhibited.mjs";
@@ -35,14 +36,44 @@ const WATCH = `(() => {
 })()`;
 
 /** Ends the looking. Gives the pictures, the phases, and the first ones that did not agree. */
-const SEEN = "(() => { const { seen } = globalThis; seen.isOn = false; return { pictures: seen.pictures, phases: [...seen.phases].sort(), wrong: seen.wrong.slice(0, 3) }; })()";
+const SEEN =
+    "(() => { const { seen } = globalThis; seen.isOn = false; return { pictures: seen.pictures, phases: [...seen.phases].sort(), wrong: seen.wrong.slice(0, 3) }; })()";
 
 /** What is looked at: an address, and what sets the machine going there. */
 const DOORS = {
-    look: ["?lang=en&story=2", async (browser) => { for (let caption = 0; caption < 3; caption += 1) { await browser.press("#caption-next"); await browser.waitFor("document.querySelector('.drum .fixed').dataset.phase === 'done'"); } }],
-    paper: ["?lang=en&story=3&caption=2", (browser) => browser.waitFor("laboratoryOfPage().history.behind >= 5 && document.querySelector('.drum .fixed').dataset.phase === 'done'")],
-    learn: ["?lang=en&lesson=rewriting&step=12", async (browser) => { await browser.press("#step"); await browser.waitFor("document.querySelector('.drum .fixed').dataset.phase === 'done'"); }],
-    learnByOrder: ["?lang=en&lesson=rewriting&step=12", async (browser) => { const before = await browser.value("laboratoryOfPage().history.behind"); await browser.go("order"); await browser.waitFor(`laboratoryOfPage().history.behind >= ${before + 2} && document.querySelector('.drum .fixed').dataset.phase === 'done'`); await browser.halt(); }],
+    look: [
+        "?lang=en&story=2",
+        async (browser) => {
+            for (let caption = 0; caption < 3; caption += 1) {
+                await browser.press("#caption-next");
+                await browser.waitFor("document.querySelector('.drum .fixed').dataset.phase === 'done'");
+            }
+        },
+    ],
+    paper: [
+        "?lang=en&story=3&caption=2",
+        (browser) => (
+            browser.waitFor("laboratoryOfPage().history.behind >= 5 && document.querySelector('.drum .fixed').dataset.phase === 'done'")
+        ),
+    ],
+    learn: [
+        "?lang=en&lesson=rewriting&step=12",
+        async (browser) => {
+            await browser.press("#step");
+            await browser.waitFor("document.querySelector('.drum .fixed').dataset.phase === 'done'");
+        },
+    ],
+    learnByOrder: [
+        "?lang=en&lesson=rewriting&step=12",
+        async (browser) => {
+            const before = await browser.value("laboratoryOfPage().history.behind");
+            await browser.go("order");
+            await browser.waitFor(
+                `laboratoryOfPage().history.behind >= ${before + 2} && document.querySelector('.drum .fixed').dataset.phase === 'done'`
+            );
+            await browser.halt();
+        },
+    ],
     task: ["?lang=en&task=sum", async (browser) => {
         await browser.write("start   b 0300\n        a 0301\n        h 0302\n        z\n        end start", ".task-desk");
         await browser.press("#put-task");
@@ -50,15 +81,62 @@ const DOORS = {
         await settled(browser);
         const before = await browser.value("laboratoryOfPage().history.behind");
         await browser.go("slow");
-        await browser.waitFor(`laboratoryOfPage().history.behind >= ${before + 2} && document.querySelector('.drum .fixed').dataset.phase === 'done'`);
+        await browser.waitFor(
+            `laboratoryOfPage().history.behind >= ${before + 2} && document.querySelector('.drum .fixed').dataset.phase === 'done'`
+        );
         await browser.halt();
     }],
-    byOrder: ["?lang=en#self-modifying", async (browser) => { await browser.go("order"); await browser.waitFor("laboratoryOfPage().history.behind >= 3"); await browser.halt(); }],
-    slow: ["?lang=en#subroutine", async (browser) => { await browser.go("slow"); await browser.waitFor("laboratoryOfPage().notice?.kind === 'rule'"); await browser.press("#notice button:last-of-type"); await browser.go("slow"); await browser.waitFor("laboratoryOfPage().history.behind >= 4"); await browser.halt(); }],
-    own: ["?lang=en#self-modifying", async (browser) => { await browser.go("own"); await browser.waitFor("laboratoryOfPage().panel.status === 'halted stop' && document.querySelector('#go-on').dataset.on === 'false'"); }],
-    fast: ["?lang=en#self-modifying", async (browser) => { await browser.go("fast"); await browser.waitFor("laboratoryOfPage().panel.status === 'halted stop'"); await browser.press("#back"); }],
-    kiosk: ["?lang=en&kiosk=message", (browser) => browser.waitFor("laboratoryOfPage().history.behind >= 12 && document.querySelector('.kiosk-told code') !== null")],
-    kioskStory: ["?lang=en&kiosk=self-modifying", async (browser) => { for (let order = 1; order <= 3; order += 1) { await browser.press(order === 1 ? "#kiosk-1" : "#kiosk-2"); await browser.waitFor(`document.querySelector('.kiosk-hint').textContent === 'Order ${order}' && laboratoryOfPage().history.behind === ${order} && document.querySelector('.drum .fixed').dataset.phase === 'done'`); } }],
+    byOrder: [
+        "?lang=en#self-modifying",
+        async (browser) => {
+            await browser.go("order");
+            await browser.waitFor("laboratoryOfPage().history.behind >= 3");
+            await browser.halt();
+        },
+    ],
+    slow: [
+        "?lang=en#subroutine",
+        async (browser) => {
+            await browser.go("slow");
+            await browser.waitFor("laboratoryOfPage().notice?.kind === 'rule'");
+            await browser.press("#notice button:last-of-type");
+            await browser.go("slow");
+            await browser.waitFor("laboratoryOfPage().history.behind >= 4");
+            await browser.halt();
+        },
+    ],
+    own: [
+        "?lang=en#self-modifying",
+        async (browser) => {
+            await browser.go("own");
+            await browser.waitFor(
+                "laboratoryOfPage().panel.status === 'halted stop' && document.querySelector('#go-on').dataset.on === 'false'"
+            );
+        },
+    ],
+    fast: [
+        "?lang=en#self-modifying",
+        async (browser) => {
+            await browser.go("fast");
+            await browser.waitFor("laboratoryOfPage().panel.status === 'halted stop'");
+            await browser.press("#back");
+        },
+    ],
+    kiosk: [
+        "?lang=en&kiosk=message",
+        (browser) => browser.waitFor("laboratoryOfPage().history.behind >= 12 && document.querySelector('.kiosk-told code') !== null"),
+    ],
+    kioskStory: [
+        "?lang=en&kiosk=self-modifying",
+        async (browser) => {
+            for (let order = 1; order <= 3; order += 1) {
+                await browser.press(order === 1 ? "#kiosk-1" : "#kiosk-2");
+                await browser.waitFor(
+                    `document.querySelector('.kiosk-hint').textContent === 'Order ${order}' && laboratoryOfPage().history.behind === ${order} && document.querySelector('.drum .fixed').dataset.phase === 'done'`
+                );
+            }
+        },
+    ],
 };
 
 async function orderUnderWay(browser, address) {
@@ -72,7 +150,9 @@ async function orderUnderWay(browser, address) {
         await settled(browser);
         await browser.value("new Promise((resolve) => requestAnimationFrame(() => requestAnimationFrame(resolve)))");
         const seen = await browser.value(SEEN);
-        assert.deepEqual([seen.wrong, seen.pictures > 0, seen.phases.includes("done")], [[], true, true], `${door}: ${JSON.stringify(seen)}`);
+        assert.deepEqual(
+            [seen.wrong, seen.pictures > 0, seen.phases.includes("done")], [[], true, true], `${door}: ${JSON.stringify(seen)}`
+        );
         pictures += seen.pictures;
     }
     await browser.open(`${address}?lang=en&door=work`);
@@ -85,7 +165,10 @@ const [TOUCHES, SIZES] = [Number(process.env.TOUCHES ?? 20), [[1024, 768], [1920
 /** The keys that visitors press: those of the buttons, the second one more often than the others, and some that are none. */
 const KEYS = ["1", "2", "2", "2", "2", "2", "2", "3", "4", "x", "Enter", "Escape"];
 
-/** In the page: presses keys and touches places, waits after each for some pictures, or for the machine as well, and gives what the kiosk is then. */
+/**
+ * In the page: presses keys and touches places, waits after each for some pictures, or for the machine as well, and gives what the kiosk is
+ * then.
+ */
 const touchedBy = (touches) => `(async () => {
     const seen = [];
     const picture = () => new Promise((resolve) => requestAnimationFrame(() => setTimeout(resolve)));
@@ -101,17 +184,31 @@ const touchedBy = (touches) => `(async () => {
     return seen;
 })()`;
 
-/** Visitors touch an example in a window: at each picture caption, hub, pin and register are of one order, and after each touch the paper is a beginning of what the program prints, and something is told. */
+/**
+ * Visitors touch an example in a window: at each picture caption, hub, pin and register are of one order, and after each touch the paper is
+ * a beginning of what the program prints, and something is told.
+ */
 async function touchedIn(browser, address, name, checks, [width, height]) {
     const among = chance(width + name.length);
-    const touches = Array.from({ length: TOUCHES }, () => ({ pause: among(8), ...(among(4) === 0 ? { x: among(width), y: among(height) } : { key: KEYS[among(KEYS.length)] }) }));
+    const touches = Array.from(
+        { length: TOUCHES },
+        () => ({ pause: among(8), ...(among(4) === 0 ? { x: among(width), y: among(height) } : { key: KEYS[among(KEYS.length)] }) })
+    );
     await browser.size(width, height);
     await browser.open(`${address}?lang=en&kiosk=${name}`);
     await browser.value(`void ${WATCH}`);
     const after = await browser.value(touchedBy(touches));
     const { wrong, pictures } = await browser.value(SEEN);
-    const isWell = ({ state, buttons, black, caption, program, paper }) => ["attract", "story", "show", "end", "matches", "faster"].includes(state) && buttons === 4 && black <= 1 && caption !== "" && (program === null || checks[program]?.(paper) !== false);
-    assert.deepEqual([wrong, after.filter((it) => !isWell(it)).slice(0, 3), after.length], [[], [], TOUCHES], `${name} at ${width} by ${height}`);
+    const isWell = ({ state, buttons, black, caption, program, paper }) => (
+        ["attract", "story", "show", "end", "matches", "faster"].includes(state)
+            && buttons === 4
+            && black <= 1
+            && caption !== ""
+            && (program === null || checks[program]?.(paper) !== false)
+    );
+    assert.deepEqual(
+        [wrong, after.filter((it) => !isWell(it)).slice(0, 3), after.length], [[], [], TOUCHES], `${name} at ${width} by ${height}`
+    );
     return pictures;
 }
 
@@ -132,4 +229,6 @@ async function touchedAtRandom(browser, address) {
 const VISITS = { orderUnderWay, touchedAtRandom };
 
 /** The visits of the page at an address, by their names. */
-export const visitsOfOrder = (address) => Object.fromEntries(Object.entries(VISITS).map(([name, visit]) => [name, (browser) => visit(browser, address)]));
+export const visitsOfOrder = (address) => (
+    Object.fromEntries(Object.entries(VISITS).map(([name, visit]) => [name, (browser) => visit(browser, address)]))
+);

@@ -1,4 +1,5 @@
-// Visits of the typewriter: its keys go down by what is printed, its carriage stands above the next column, what is typed is on the paper; and the paper is pulled up, torn off, and a row of it is typed again.
+// Visits of the typewriter: its keys go down by what is printed, its carriage stands above the next column, what is typed is on the paper;
+// and the paper is pulled up, torn off, and a row of it is typed again.
 import assert from "node:assert/strict";
 import { hiddenTexts, laidOut, unhit } from "./seen.mjs";
 
@@ -26,21 +27,30 @@ async function struckKeys(browser, address) {
     await browser.write("start p =q\n p =7\n p =+\n p 0300\n p =h\n z\n end start");
     await browser.press("#load");
     await settled(browser);
-    await browser.value("(() => { globalThis.wentDown = []; new MutationObserver((changes) => { for (const { target } of changes) if (target.classList.contains('down')) wentDown.push(target.dataset.key); }).observe(document.querySelector('.key-rows'), { subtree: true, attributeFilter: ['class'] }); })()");
+    await browser.value(
+        "(() => { globalThis.wentDown = []; new MutationObserver((changes) => { for (const { target } of changes) if (target.classList.contains('down')) wentDown.push(target.dataset.key); }).observe(document.querySelector('.key-rows'), { subtree: true, attributeFilter: ['class'] }); })()"
+    );
     await browser.value("laboratoryOfPage().command('press start')");
     for (const [at, sign] of [..."q7+ h"].entries()) {
         await browser.value("laboratoryOfPage().step(1)");
         assert.equal(await browser.value("document.querySelector('.paper').textContent"), "q7+ h".slice(0, at + 1));
         assert.equal(await browser.value("document.querySelector('.code-plate b').textContent"), sign);
-        const told = await browser.value("(({ code }) => Array.from({ length: 6 }, (unused, bit) => ((code >> bit) & 1) === 1))(laboratoryOfPage().struck)");
-        const holes = await browser.value("[...document.querySelectorAll('.code-plate circle')].filter((unused, at) => at !== 3).map((hole) => hole.getAttribute('class') === 'hole')");
+        const told = await browser.value(
+            "(({ code }) => Array.from({ length: 6 }, (unused, bit) => ((code >> bit) & 1) === 1))(laboratoryOfPage().struck)"
+        );
+        const holes = await browser.value(
+            "[...document.querySelectorAll('.code-plate circle')].filter((unused, at) => at !== 3).map((hole) => hole.getAttribute('class') === 'hole')"
+        );
         assert.deepEqual(holes, told, sign);
         if (sign !== " ") assert.ok(Math.abs(await offColumn(browser)) <= 1.5, `${sign}: ${await offColumn(browser)}`);
     }
     assert.deepEqual([...new Set(await browser.value("wentDown"))], [..."q7+ h"]);
 }
 
-/** Only where the machine waits its keys do something; what is typed is on the paper in another ink, and no part of its text; gone back over, it is gone. */
+/**
+ * Only where the machine waits its keys do something; what is typed is on the paper in another ink, and no part of its text; gone back
+ * over, it is gone.
+ */
 async function typedKeys(browser, address) {
     await browser.open(`${address}${READS}`);
     const isLive = "[...document.querySelectorAll('.deck .key')].every((key) => key.getAttribute('aria-disabled') === 'false')";
@@ -48,11 +58,18 @@ async function typedKeys(browser, address) {
     await browser.press("#go-on");
     await browser.waitFor(waits);
     await settled(browser);
-    assert.deepEqual([await browser.value(isLive), await browser.value("document.querySelector('.deck').dataset.state")], [true, "waiting"]);
+    assert.deepEqual(
+        [await browser.value(isLive), await browser.value("document.querySelector('.deck').dataset.state")], [true, "waiting"]
+    );
     const before = await browser.value("document.querySelector('.paper').textContent");
     for (const key of "42") await browser.press(`.deck [data-key='${key}']`);
     await settled(browser);
-    assert.deepEqual(await browser.value("[document.querySelector('.deck').dataset.state, document.querySelector('.paper .typed').dataset.typed, document.querySelector('.paper').textContent]"), ["typed", "42", before]);
+    assert.deepEqual(
+        await browser.value(
+            "[document.querySelector('.deck').dataset.state, document.querySelector('.paper .typed').dataset.typed, document.querySelector('.paper').textContent]"
+        ),
+        ["typed", "42", before]
+    );
     assert.equal(await browser.value("document.querySelectorAll('.deck .key[tabindex=\"0\"]').length"), 1);
     await browser.press("#back");
     await settled(browser);
@@ -67,8 +84,12 @@ async function pulledUp(browser, address) {
     await browser.write(ROWS);
     await browser.press("#load");
     await settled(browser);
-    const boxes = () => browser.value("[...document.querySelectorAll('.source, .cabinet, .pace, .flexowriter')].map((it) => { const { left, top, width, height } = it.getBoundingClientRect(); return [left, top, width, height].map(Math.round); })");
-    await browser.value("(async () => { const it = laboratoryOfPage(); await it.command('press start'); for (let runs = 0; runs < 20 && it.printed.text.split('\\n').length < 2000; runs += 1) await it.run(2000); })()");
+    const boxes = () => browser.value(
+        "[...document.querySelectorAll('.source, .cabinet, .pace, .flexowriter')].map((it) => { const { left, top, width, height } = it.getBoundingClientRect(); return [left, top, width, height].map(Math.round); })"
+    );
+    await browser.value(
+        "(async () => { const it = laboratoryOfPage(); await it.command('press start'); for (let runs = 0; runs < 20 && it.printed.text.split('\\n').length < 2000; runs += 1) await it.run(2000); })()"
+    );
     const before = await boxes();
     await browser.strike("F4");
     await browser.waitFor("document.querySelector('.pulled-up').checkVisibility()");
@@ -78,14 +99,36 @@ async function pulledUp(browser, address) {
         await browser.strike(key);
         await laidOut(browser);
         assert.ok(await browser.value("document.querySelectorAll('.pulled-up *').length") < 240);
-        assert.equal(await browser.value("(() => { const [row, list] = ['.piece-right .marked', '.piece-right .piece-rows'].map((it) => document.querySelector(it).getBoundingClientRect()); return row.top >= list.top - 1 && row.bottom <= list.bottom + 1; })()"), true, key);
+        assert.equal(
+            await browser.value(
+                "(() => { const [row, list] = ['.piece-right .marked', '.piece-right .piece-rows'].map((it) => document.querySelector(it).getBoundingClientRect()); return row.top >= list.top - 1 && row.bottom <= list.bottom + 1; })()"
+            ),
+            true,
+            key
+        );
     }
     for (const [width, height] of [[1366, 768], [1920, 1080], [1024, 768], [390, 844]]) {
         await browser.size(width, height);
         await laidOut(browser);
-        const thumbs = await browser.value("[...document.querySelectorAll('.thumb:not([hidden])')].filter((it) => { const [thumb, paper] = [it, document.querySelector('.pulled-up')].map((box) => box.getBoundingClientRect()); return thumb.left > paper.left && thumb.right < paper.right && thumb.top < document.querySelector('.piece-right .piece-rows').getBoundingClientRect().top; }).length");
-        assert.deepEqual([await hiddenTexts(browser), await unhit(browser), thumbs, await browser.value("document.documentElement.scrollWidth <= innerWidth")], [[], [], 0, true], `at ${width} by ${height}`);
-        assert.equal(await browser.value("(({ offsetWidth, clientWidth }) => offsetWidth - clientWidth)(document.querySelector('.piece-right .piece-rows'))"), 0);
+        const thumbs = await browser.value(
+            "[...document.querySelectorAll('.thumb:not([hidden])')].filter((it) => { const [thumb, paper] = [it, document.querySelector('.pulled-up')].map((box) => box.getBoundingClientRect()); return thumb.left > paper.left && thumb.right < paper.right && thumb.top < document.querySelector('.piece-right .piece-rows').getBoundingClientRect().top; }).length"
+        );
+        assert.deepEqual(
+            [
+                await hiddenTexts(browser),
+                await unhit(browser),
+                thumbs,
+                await browser.value("document.documentElement.scrollWidth <= innerWidth"),
+            ],
+            [[], [], 0, true],
+            `at ${width} by ${height}`
+        );
+        assert.equal(
+            await browser.value(
+                "(({ offsetWidth, clientWidth }) => offsetWidth - clientWidth)(document.querySelector('.piece-right .piece-rows'))"
+            ),
+            0
+        );
     }
     await browser.size(1500, 1250);
     await browser.strike("Escape");
@@ -108,20 +151,36 @@ async function typedAgain(browser, address) {
     await browser.press(".piece-right [data-row='1']");
     assert.match(await browser.value("document.querySelector('.row-open').textContent"), /The machine is not waiting for keys/);
     await browser.strike("Escape");
-    assert.deepEqual(await browser.value("[document.querySelector('.row-open'), document.querySelector('.pulled-up').checkVisibility()]"), [null, true]);
+    assert.deepEqual(
+        await browser.value("[document.querySelector('.row-open'), document.querySelector('.pulled-up').checkVisibility()]"), [null, true]
+    );
     const whole = await browser.value("laboratoryOfPage().printed.text");
     await browser.press("#tear-off");
     await browser.waitFor("document.querySelector('.paper').textContent === ''");
-    assert.deepEqual([await browser.value("laboratoryOfPage().printed.text"), await browser.value("document.querySelectorAll('.piece-right .piece-row').length")], [whole, 0]);
+    assert.deepEqual(
+        [
+            await browser.value("laboratoryOfPage().printed.text"),
+            await browser.value("document.querySelectorAll('.piece-right .piece-row').length"),
+        ],
+        [whole, 0]
+    );
     await browser.press("[data-name='twoPieces']");
     assert.match(await browser.value("document.querySelector('.piece-left').textContent"), new RegExp(number));
     // what the paper lies upon is not there for the keys either
-    assert.deepEqual([await unhit(browser), await browser.value("document.querySelector('.console').checkVisibility({ visibilityProperty: true })")], [[], false]);
+    assert.deepEqual(
+        [await unhit(browser), await browser.value("document.querySelector('.console').checkVisibility({ visibilityProperty: true })")],
+        [[], false]
+    );
     await new Promise((resolve) => setTimeout(resolve, 600));
     await browser.value("(globalThis.isOld = true, location.reload())").catch(() => {});
-    await browser.waitFor("globalThis.isOld === undefined && document.documentElement.dataset.ready === 'true' && laboratoryOfPage().printed.count > 0");
+    await browser.waitFor(
+        "globalThis.isOld === undefined && document.documentElement.dataset.ready === 'true' && laboratoryOfPage().printed.count > 0"
+    );
     await settled(browser);
-    assert.deepEqual(await browser.value("[document.querySelector('.paper').textContent, document.querySelectorAll('.piece-left option').length]"), ["", 0]);
+    assert.deepEqual(
+        await browser.value("[document.querySelector('.paper').textContent, document.querySelectorAll('.piece-left option').length]"),
+        ["", 0]
+    );
     await browser.press("#pull-up");
     assert.equal(await browser.value("document.querySelectorAll('.piece-left option').length"), 2);
     await browser.open(`${address}?lang=en&door=work`);
@@ -130,4 +189,6 @@ async function typedAgain(browser, address) {
 const VISITS = { struckKeys, typedKeys, pulledUp, typedAgain };
 
 /** The visits, each by its name. */
-export const visitsOfPaper = (address) => Object.fromEntries(Object.entries(VISITS).map(([name, visit]) => [name, (browser) => visit(browser, address)]));
+export const visitsOfPaper = (address) => (
+    Object.fromEntries(Object.entries(VISITS).map(([name, visit]) => [name, (browser) => visit(browser, address)]))
+);

@@ -1,4 +1,5 @@
-// Visits of people who have read nothing before: they see a control and press it where it is seen, and type; nothing is scrolled for them, and their keys and presses are counted.
+// Visits of people who have read nothing before: they see a control and press it where it is seen, and type; nothing is scrolled for them,
+// and their keys and presses are counted.
 import assert from "node:assert/strict";
 
 const settled = (browser) => browser.value("laboratoryOfPage().settled()");
@@ -13,7 +14,9 @@ const middleOf = (browser, selector) => browser.value(`(() => {
 })()`);
 
 /** Notes what is scrolled from here on. */
-const noteScrolls = (browser) => browser.value("void (globalThis.scrolled = [], addEventListener('scroll', ({ target }) => scrolled.push(target.className ?? 'the page'), true))");
+const noteScrolls = (browser) => browser.value(
+    "void (globalThis.scrolled = [], addEventListener('scroll', ({ target }) => scrolled.push(target.className ?? 'the page'), true))"
+);
 
 /** The hands of somebody, who counts what they do. */
 function handsOf(browser) {
@@ -63,7 +66,12 @@ async function firstLetter(browser, address) {
         await hands.press("#run-program");
         await browser.waitFor("document.querySelector('.paper').textContent === 'h'");
         assert.ok(hands.count < MOST, `${hands.count} keys and presses`);
-        assert.deepEqual(await browser.value("[scrolled.filter((name) => !/CodeMirror|with-arrows/.test(name)), document.querySelector('dialog'), scrollX, scrollY]"), [[], null, 0, 0]);
+        assert.deepEqual(
+            await browser.value(
+                "[scrolled.filter((name) => !/CodeMirror|with-arrows/.test(name)), document.querySelector('dialog'), scrollX, scrollY]"
+            ),
+            [[], null, 0, 0]
+        );
         counts.push(hands.count);
     }
     await browser.size(1500, 1250);
@@ -72,7 +80,10 @@ async function firstLetter(browser, address) {
 
 const FAULTY = "start b one\n a tow\n h sum\n z\none word 00000002\ntwo word 00000004\nsum word 00000000\n end start";
 
-/** A fault is mended where the page goes to it; then somebody asks the map who put a word there, and goes back to before that order by its row. */
+/**
+ * A fault is mended where the page goes to it; then somebody asks the map who put a word there, and goes back to before that order by its
+ * row.
+ */
 async function whoPutIt(browser, address) {
     await browser.size(1366, 768);
     await browser.open(`${address}?lang=en&door=work`);
@@ -96,9 +107,13 @@ async function whoPutIt(browser, address) {
     await browser.waitFor("document.querySelector('.map-answer').textContent !== ''");
     const [, order, at] = /put there by (h 0006) sum at (\d{4})/.exec(await textOf(browser, ".map-answer"));
     assert.deepEqual([order, at], ["h 0006", "0002"]);
-    await browser.value(`document.querySelectorAll(".accounts tbody button").forEach((it) => it.id = it.textContent.startsWith("${at}") ? "its-row" : "")`);
+    await browser.value(
+        `document.querySelectorAll(".accounts tbody button").forEach((it) => it.id = it.textContent.startsWith("${at}") ? "its-row" : "")`
+    );
     await hands.press("#its-row");
-    assert.deepEqual(await browser.value("[laboratoryOfPage().panel.counter, document.querySelector('.when output').textContent]"), [at, "order 2 of 4"]);
+    assert.deepEqual(
+        await browser.value("[laboratoryOfPage().panel.counter, document.querySelector('.when output').textContent]"), [at, "order 2 of 4"]
+    );
     await browser.waitFor("/^0006 sum 00000000/.test(document.querySelector('.map-told').textContent)");
     await browser.press("[data-name='mapPasses']");
     await browser.press("#tab-memory-program");
@@ -108,4 +123,6 @@ async function whoPutIt(browser, address) {
 const VISITS = { firstLetter, whoPutIt };
 
 /** The visits of people, by their names. */
-export const visitsOfPeople = (address) => Object.fromEntries(Object.entries(VISITS).map(([name, visit]) => [name, (browser) => visit(browser, address)]));
+export const visitsOfPeople = (address) => (
+    Object.fromEntries(Object.entries(VISITS).map(([name, visit]) => [name, (browser) => visit(browser, address)]))
+);

@@ -1,4 +1,5 @@
-// Visits of what is small at the page, and was wrong once: what is seen is whole and in its place, what is shown is true, and each control does what it says.
+// Visits of what is small at the page, and was wrong once: what is seen is whole and in its place, what is shown is true, and each control
+// does what it says.
 import assert from "node:assert/strict";
 import { laidOut } from "./seen.mjs";
 
@@ -14,7 +15,8 @@ async function press(browser, selector) {
 const SIZES = [[390, 800], [768, 1024], [1024, 768], [1280, 720], [1440, 900], [1920, 1080]];
 
 /** Lists and texts that may be scrolled. */
-const LISTS = ".scroll, .with-arrows, .steps, .script-lines, .log, .transcript, .rows, .task-text, .task-answer, .explanation-text, .paper, .piece-rows, .reply, .lines-of-step pre, .notice, .tells, .editor *, .lesson, .tab-panel, .tales > .line, .unseen";
+const LISTS =
+    ".scroll, .with-arrows, .steps, .script-lines, .log, .transcript, .rows, .task-text, .task-answer, .explanation-text, .paper, .piece-rows, .reply, .lines-of-step pre, .notice, .tells, .editor *, .lesson, .tab-panel, .tales > .line, .unseen";
 
 /** Controls and drawings of which an ancestor cuts something off, and drawings that are too small to be seen. */
 const clipped = (browser) => browser.value(`[...document.querySelectorAll("#page :is(button, input, select, .editor, canvas, svg)")].filter((it) => it.checkVisibility() && it.closest(".drum-box") === null).flatMap((it) => {
@@ -33,14 +35,24 @@ const clipped = (browser) => browser.value(`[...document.querySelectorAll("#page
 
 /** No control and no drawing is cut off by what it is in, behind no door and at no size; the tape's holes are seen. */
 async function nothingClipped(browser, address) {
-    for (const behind of ["?lang=de&door=hall", "?lang=de&door=work#input-and-output/checksum", "?lang=de&lesson=rewriting", "?lang=de&task=sum", "?lang=de&story=2"]) {
+    for (const behind of [
+        "?lang=de&door=hall",
+        "?lang=de&door=work#input-and-output/checksum",
+        "?lang=de&lesson=rewriting",
+        "?lang=de&task=sum",
+        "?lang=de&story=2",
+    ]) {
         await browser.open(address + behind);
         await settled(browser);
         for (const [width, height] of SIZES) {
             await browser.size(width, height);
             assert.deepEqual(await clipped(browser), [], `${behind} at ${width} by ${height}`);
             if (behind.includes("checksum")) await browser.reveal(".tape-strip");
-            if (behind.includes("checksum")) assert.ok(await browser.value("document.querySelector('.tape-strip').getBoundingClientRect().height >= 80"), `tape at ${width}`);
+            if (behind.includes("checksum")) {
+                assert.ok(
+                    await browser.value("document.querySelector('.tape-strip').getBoundingClientRect().height >= 80"), `tape at ${width}`
+                );
+            }
             assert.equal(await browser.value("document.documentElement.scrollWidth <= innerWidth"), true, `${behind} at ${width}`);
         }
     }
@@ -50,13 +62,23 @@ async function nothingClipped(browser, address) {
 /** Two presses on stories, on one or on two, play one; two presses on Next go two on. */
 async function oneStory(browser, address) {
     await browser.open(`${address}?lang=en&door=look`);
-    const isHere = (tale, at) => browser.waitFor(`document.querySelector('[data-tale][aria-pressed=true]')?.dataset.tale === "${tale}" && document.querySelector('.caption-at').textContent === '${at} of 5' && document.querySelector('.caption').getAttribute('aria-busy') === 'false'`);
+    const isHere = (tale, at) => browser.waitFor(
+        `document.querySelector('[data-tale][aria-pressed=true]')?.dataset.tale === "${tale}" && document.querySelector('.caption-at').textContent === '${at} of 5' && document.querySelector('.caption').getAttribute('aria-busy') === 'false'`
+    );
     for (const [one, other] of [["wait", "wait"], ["wait", "rewrite"], ["type", "wait"]]) {
-        await browser.value(`(() => { for (const name of ["${one}", "${other}"]) document.querySelector('[data-tale="' + name + '"]').click(); })()`);
+        await browser.value(
+            `(() => { for (const name of ["${one}", "${other}"]) document.querySelector('[data-tale="' + name + '"]').click(); })()`
+        );
         await isHere(other, 1);
         await browser.waitFor(`!(${isMoving})`);
         await settled(browser);
-        assert.deepEqual(await browser.value("[laboratoryOfPage().history.behind, laboratoryOfPage().lines.filter((line) => line === 'press start').length]"), [{ wait: 1, rewrite: 9 }[other], 1], `${one}, ${other}`);
+        assert.deepEqual(
+            await browser.value(
+                "[laboratoryOfPage().history.behind, laboratoryOfPage().lines.filter((line) => line === 'press start').length]"
+            ),
+            [{ wait: 1, rewrite: 9 }[other], 1],
+            `${one}, ${other}`
+        );
     }
     await browser.value("(() => { for (let pressed = 0; pressed < 2; pressed += 1) document.querySelector('#caption-next').click(); })()");
     await isHere("wait", 3);
@@ -85,9 +107,13 @@ async function hallBeside(browser, address) {
 async function runStays(browser, address) {
     await browser.open(`${address}?lang=en#self-modifying`);
     await browser.size(1280, 900);
-    const places = () => browser.value("JSON.stringify([...document.querySelectorAll('#go-on, .drum-box, .words-table')].map((it) => { const { x, y, width } = it.getBoundingClientRect(); return [x, y, width].map(Math.round); }))");
+    const places = () => browser.value(
+        "JSON.stringify([...document.querySelectorAll('#go-on, .drum-box, .words-table')].map((it) => { const { x, y, width } = it.getBoundingClientRect(); return [x, y, width].map(Math.round); }))"
+    );
     const [before, seen] = [await places(), []];
-    await browser.value("(() => { globalThis.tops = new Set(); const look = () => { tops.add(document.querySelector('#go-on').getBoundingClientRect().top); if (globalThis.tops !== null) requestAnimationFrame(look); }; look(); })()");
+    await browser.value(
+        "(() => { globalThis.tops = new Set(); const look = () => { tops.add(document.querySelector('#go-on').getBoundingClientRect().top); if (globalThis.tops !== null) requestAnimationFrame(look); }; look(); })()"
+    );
     await press(browser, "#go-on");
     for (let looks = 0; looks < 3; looks += 1) {
         seen.push(await textOf(browser, "#progress"), await places());
@@ -101,7 +127,10 @@ async function runStays(browser, address) {
     await browser.size(1500, 1250);
 }
 
-/** A saved script has what the reader did, and of the page's own questions none; a step is one run of one order, also where the rows of the drum are seen. */
+/**
+ * A saved script has what the reader did, and of the page's own questions none; a step is one run of one order, also where the rows of the
+ * drum are seen.
+ */
 async function ownQuestions(browser, address) {
     await browser.open(`${address}?lang=en&door=work`);
     await browser.value("laboratoryOfPage().say('put 0000 b 0050', 'put 0001 z', 'press start')");
@@ -111,15 +140,26 @@ async function ownQuestions(browser, address) {
     await browser.press("#save");
     await browser.waitFor("document.querySelector('#with-questions')");
     await browser.press("#with-questions");
-    assert.equal(await browser.value("document.querySelector('.transcript').textContent"), "put 0000 000100j8\nput 0001 00000000\npress start\nrun 1\n");
+    assert.equal(
+        await browser.value("document.querySelector('.transcript').textContent"),
+        "put 0000 000100j8\nput 0001 00000000\npress start\nrun 1\n"
+    );
     await browser.press("dialog > button");
 }
 
 /** Nothing has a name that is no text, in no language and behind no door. */
 async function names(browser, address) {
-    for (const code of ["en", "de"]) for (const behind of ["door=hall", "story=1", "lesson=rewriting", "task=sum", "door=work", "kiosk=message", "kiosk=games/matches"]) {
+    for (const code of ["en", "de"]) for (const behind of [
+        "door=hall", "story=1", "lesson=rewriting", "task=sum", "door=work", "kiosk=message", "kiosk=games/matches",
+    ]) {
         await browser.open(`${address}?lang=${code}&${behind}`);
-        assert.deepEqual(await browser.value("[...document.querySelectorAll('*')].filter((it) => /\\[object |undefined|NaN/.test([it.getAttribute('aria-label'), it.title, it.children.length === 0 && !it.matches('script, style') ? it.textContent : ''].join(' '))).map((it) => it.outerHTML.slice(0, 100))"), [], behind);
+        assert.deepEqual(
+            await browser.value(
+                "[...document.querySelectorAll('*')].filter((it) => /\\[object |undefined|NaN/.test([it.getAttribute('aria-label'), it.title, it.children.length === 0 && !it.matches('script, style') ? it.textContent : ''].join(' '))).map((it) => it.outerHTML.slice(0, 100))"
+            ),
+            [],
+            behind
+        );
     }
     await browser.open(`${address}?lang=en&door=work`);
 }
@@ -127,7 +167,9 @@ async function names(browser, address) {
 /** Enter in the field for addresses shows the words there, as its button does. */
 async function enterShows(browser, address) {
     await browser.open(`${address}?lang=en&door=work`);
-    await browser.value("(() => { const it = document.querySelector('.listing form input'); it.value = '0220'; it.dispatchEvent(new Event('input')); it.form.requestSubmit(); })()");
+    await browser.value(
+        "(() => { const it = document.querySelector('.listing form input'); it.value = '0220'; it.dispatchEvent(new Event('input')); it.form.requestSubmit(); })()"
+    );
     await settled(browser);
     assert.equal(await browser.value("document.querySelector(`tr[data-address='0220']`) !== null"), true);
 }
@@ -136,7 +178,9 @@ async function enterShows(browser, address) {
 async function lessonTells(browser, address) {
     await browser.size(1366, 768);
     await browser.open(`${address}?lang=de&lesson=rewriting`);
-    await browser.value("(() => { const form = document.querySelector('.lesson li.now .types'); form.querySelector('input').value = 'put 0000 1004'; form.requestSubmit(); })()");
+    await browser.value(
+        "(() => { const form = document.querySelector('.lesson li.now .types'); form.querySelector('input').value = 'put 0000 1004'; form.requestSubmit(); })()"
+    );
     await settled(browser);
     await browser.press(".lesson li.now .for-hint");
     const trouble = await browser.value(`(() => {
@@ -148,7 +192,9 @@ async function lessonTells(browser, address) {
     })()`);
     assert.deepEqual(trouble, [true, [], true, true]);
     await browser.open(`${address}?lang=en&lesson=a-computer-on-a-drum`);
-    const answer = (text) => browser.value(`(() => { const form = document.querySelector(".lesson li.now .answer"); form.querySelector("input").value = "${text}"; form.requestSubmit(); return document.querySelector(".lesson li.now .hint").textContent; })()`);
+    const answer = (text) => browser.value(
+        `(() => { const form = document.querySelector(".lesson li.now .answer"); form.querySelector("input").value = "${text}"; form.requestSubmit(); return document.querySelector(".lesson li.now .hint").textContent; })()`
+    );
     for (let pressed = 0; pressed < 3; pressed += 1) assert.equal(await answer(" "), "Write your answer first.");
     assert.doesNotMatch(await answer("99"), /Right is/);
     await browser.size(1500, 1250);
@@ -162,15 +208,26 @@ async function forcedColours(browser, address) {
     await browser.halt();
     await settled(browser);
     await browser.media({ "forced-colors": "active" });
-    const colours = await browser.value("[...document.querySelectorAll('.order-bar .piece i')].map((it) => getComputedStyle(it).backgroundColor)");
+    const colours = await browser.value(
+        "[...document.querySelectorAll('.order-bar .piece i')].map((it) => getComputedStyle(it).backgroundColor)"
+    );
     assert.ok(new Set(colours).size >= 3 && colours.every((colour) => !/^rgba.*, 0\)$/.test(colour)), colours.join(" "));
-    assert.deepEqual(await browser.value("['.piece', '.strip', '.drum-box', '.scope', '.timeline', '.lever i'].filter((it) => getComputedStyle(document.querySelector(it)).forcedColorAdjust !== 'none')"), []);
+    assert.deepEqual(
+        await browser.value(
+            "['.piece', '.strip', '.drum-box', '.scope', '.timeline', '.lever i'].filter((it) => getComputedStyle(document.querySelector(it)).forcedColorAdjust !== 'none')"
+        ),
+        []
+    );
     // what is left free at the end of a list, so that no row is cut, has the colour of the ground
     const free = [];
     for (const size of [[1366, 768], [1440, 900], [1280, 720]]) {
         await browser.size(...size);
         await laidOut(browser);
-        free.push(...await browser.value("(() => { const probe = document.createElement('i'); probe.style.color = 'Canvas'; document.body.append(probe); const { color } = getComputedStyle(probe); probe.remove(); return [...document.querySelectorAll('main [style*=border-bottom]')].map((it) => getComputedStyle(it)).filter((it) => parseFloat(it.borderBottomWidth) > 2).map(({ borderBottomColor }) => borderBottomColor === color); })()"));
+        free.push(
+            ...await browser.value(
+                "(() => { const probe = document.createElement('i'); probe.style.color = 'Canvas'; document.body.append(probe); const { color } = getComputedStyle(probe); probe.remove(); return [...document.querySelectorAll('main [style*=border-bottom]')].map((it) => getComputedStyle(it)).filter((it) => parseFloat(it.borderBottomWidth) > 2).map(({ borderBottomColor }) => borderBottomColor === color); })()"
+            )
+        );
     }
     assert.deepEqual([free.length > 0, free.filter((it) => !it)], [true, []]);
     await browser.size(1500, 1250);
@@ -181,7 +238,10 @@ async function forcedColours(browser, address) {
 /** The console's buttons in their order; one code is one; a long source has few nodes. */
 async function small(browser, address) {
     await browser.open(`${address}?lang=en&door=work`);
-    assert.deepEqual(await browser.value("[...document.querySelectorAll('.console .square')].map((it) => it.dataset.name)"), ["manual", "oneop", "normal", "start", "clear", "fill", "execute", "compute", "read"]);
+    assert.deepEqual(
+        await browser.value("[...document.querySelectorAll('.console .square')].map((it) => it.dataset.name)"),
+        ["manual", "oneop", "normal", "start", "clear", "fill", "execute", "compute", "read"]
+    );
     await browser.value("laboratoryOfPage().say('put 0000 p =h', 'put 0001 z', 'press start', 'run 1')");
     assert.match(await textOf(browser, ".typewriter"), /1 code printed/);
     await browser.write(Array(5000).fill(" b 0050").join("\n"));
@@ -191,7 +251,11 @@ async function small(browser, address) {
 
 /** Notices with something to press, each as the page tells it. */
 const NOTICES = {
-    rule: { kind: "rule", number: 0, rule: "watch 0011 guess", isOfScript: true }, printed: { kind: "printedMuch", count: 20_000 }, used: { kind: "usedUp" }, before: { kind: "before", lines: "put 0000 z", work: "none" }, kept: { kind: "beforeKept", work: "none" },
+    rule: { kind: "rule", number: 0, rule: "watch 0011 guess", isOfScript: true },
+    printed: { kind: "printedMuch", count: 20_000 },
+    used: { kind: "usedUp" },
+    before: { kind: "before", lines: "put 0000 z", work: "none" },
+    kept: { kind: "beforeKept", work: "none" },
 };
 
 /** Of the notice that is shown: by how much it has to be scrolled, and which of its controls are not hit by themselves. */
@@ -223,7 +287,9 @@ async function noticesWhole(browser, address) {
             await browser.value("laboratoryOfPage().tell(null)");
             if (await browser.value("!document.querySelector('#kept').checkVisibility()")) continue;
             offers += 1;
-            assert.deepEqual(await notWhole(browser, "kept"), [0, [], true], `${code}, the offer behind ${behind} at ${width} by ${height}`);
+            assert.deepEqual(
+                await notWhole(browser, "kept"), [0, [], true], `${code}, the offer behind ${behind} at ${width} by ${height}`
+            );
             assert.equal(await browser.value("document.querySelector('.pace')?.querySelector('.when').checkVisibility() !== false"), true);
         }
     }
@@ -244,10 +310,14 @@ const pressedAt = (browser, selector) => browser.value(`(async () => {
 async function focusStays(browser, address) {
     await browser.open(`${address}?lang=en&game=faster`);
     await browser.waitFor("document.querySelector('.faster').getAttribute('aria-busy') === 'false'");
-    await browser.value("document.querySelector('.faster .grip').dispatchEvent(new KeyboardEvent('keydown', { key: 'ArrowRight', bubbles: true }))");
+    await browser.value(
+        "document.querySelector('.faster .grip').dispatchEvent(new KeyboardEvent('keydown', { key: 'ArrowRight', bubbles: true }))"
+    );
     assert.deepEqual(await pressedAt(browser, "#faster-back"), [true, "true"]);
     await browser.open(`${address}?lang=en&story=2&caption=2`);
-    await browser.waitFor("document.querySelector('.caption-at').textContent === '2 of 5' && document.querySelector('.caption').getAttribute('aria-busy') === 'false'");
+    await browser.waitFor(
+        "document.querySelector('.caption-at').textContent === '2 of 5' && document.querySelector('.caption').getAttribute('aria-busy') === 'false'"
+    );
     assert.deepEqual(await pressedAt(browser, "#caption-back"), [true, "true"]);
     await browser.open(`${address}?lang=en&door=work#drum/household`);
     await press(browser, "#go-on");
@@ -255,36 +325,60 @@ async function focusStays(browser, address) {
     await press(browser, "tr[data-address='0128'] button");
     await browser.waitFor("document.querySelector('.drum .grip') !== null");
     await browser.reveal("#carried-back");
-    await browser.value("document.querySelector('.drum .grip').dispatchEvent(new KeyboardEvent('keydown', { key: 'ArrowRight', bubbles: true }))");
+    await browser.value(
+        "document.querySelector('.drum .grip').dispatchEvent(new KeyboardEvent('keydown', { key: 'ArrowRight', bubbles: true }))"
+    );
     assert.deepEqual(await pressedAt(browser, "#carried-back"), [true, "true"]);
     await browser.value("laboratoryOfPage().say('break 0100')");
     await browser.reveal(".rules");
-    await browser.value("(() => { const it = document.querySelector('.rules button'); it.focus(); it.click(); return laboratoryOfPage().settled(); })()");
-    assert.deepEqual(await browser.value("[laboratoryOfPage().rules, document.activeElement.closest('.listing form') !== null]"), [[], true]);
+    await browser.value(
+        "(() => { const it = document.querySelector('.rules button'); it.focus(); it.click(); return laboratoryOfPage().settled(); })()"
+    );
+    assert.deepEqual(
+        await browser.value("[laboratoryOfPage().rules, document.activeElement.closest('.listing form') !== null]"), [[], true]
+    );
 }
 
-/** A teacher's: each lesson has a link to its sheet, which is what a printer gets; a task is set up, and run, by buttons that say so; and so is a source in Work. */
+/**
+ * A teacher's: each lesson has a link to its sheet, which is what a printer gets; a task is set up, and run, by buttons that say so; and so
+ * is a source in Work.
+ */
 async function teachers(browser, address) {
     for (const [code, title] of [["en", "The program that rewrites itself"], ["de", "Das Programm, das sich umschreibt"]]) {
         await browser.open(`${address}?lang=${code}&lesson=rewriting`);
         assert.equal(await browser.value("document.querySelector('.lesson .sheet-link').checkVisibility()"), true);
-        const sheet = await browser.value("(async () => { const it = document.querySelector('.sheet-link'); it.removeAttribute('target'); it.addEventListener('click', (event) => event.preventDefault()); it.click(); return it.href.startsWith('blob:') && document.getElementById('printed-sheet').shadowRoot.querySelector('h1').textContent; })()");
+        const sheet = await browser.value(
+            "(async () => { const it = document.querySelector('.sheet-link'); it.removeAttribute('target'); it.addEventListener('click', (event) => event.preventDefault()); it.click(); return it.href.startsWith('blob:') && document.getElementById('printed-sheet').shadowRoot.querySelector('h1').textContent; })()"
+        );
         assert.equal(sheet, title);
         if (browser.ask === undefined) continue;
         await browser.ask("Emulation.setEmulatedMedia", { media: "print" });
-        assert.deepEqual(await browser.value("[document.getElementById('page').checkVisibility(), document.getElementById('printed-sheet').checkVisibility()]"), [false, true]);
+        assert.deepEqual(
+            await browser.value(
+                "[document.getElementById('page').checkVisibility(), document.getElementById('printed-sheet').checkVisibility()]"
+            ),
+            [false, true]
+        );
         await browser.ask("Emulation.setEmulatedMedia", { media: "" });
     }
     await browser.open(`${address}?lang=en&task=sum`);
     assert.equal(await browser.value("document.getElementById('printed-sheet').shadowRoot?.childNodes.length ?? 0"), 0);
-    assert.deepEqual(await browser.value("['run-task', 'put-task'].map((id) => document.getElementById(id).textContent)"), ["Run my program", "Set up the machine"]);
+    assert.deepEqual(
+        await browser.value("['run-task', 'put-task'].map((id) => document.getElementById(id).textContent)"),
+        ["Run my program", "Set up the machine"]
+    );
     await browser.open(`${address}?lang=en&door=work`);
     await browser.write("start p =h\n z\n end start");
     await browser.press("#run-program");
     await browser.waitFor("laboratoryOfPage().printed.text === 'h' && laboratoryOfPage().panel.status === 'halted stop'");
 }
 
-const VISITS = { noticesWhole, focusStays, nothingClipped, oneStory, hallBeside, runStays, ownQuestions, names, enterShows, lessonTells, forcedColours, small, teachers };
+const VISITS = {
+    noticesWhole, focusStays, nothingClipped, oneStory, hallBeside, runStays, ownQuestions, names, enterShows, lessonTells, forcedColours,
+    small, teachers,
+};
 
 /** The visits of the page at an address, by their names. */
-export const visitsOfPoints = (address) => Object.fromEntries(Object.entries(VISITS).map(([name, visit]) => [name, (browser) => visit(browser, address)]));
+export const visitsOfPoints = (address) => (
+    Object.fromEntries(Object.entries(VISITS).map(([name, visit]) => [name, (browser) => visit(browser, address)]))
+);

@@ -7,10 +7,15 @@ const STEPS = ["a-computer-on-a-drum&step=6", "a-computer-on-a-drum&step=3", "re
 const OWN = ".steps, .lesson-foot, .telling, .drum, .console, .drives, #leave-projector";
 
 const settled = (browser) => browser.value("laboratoryOfPage().settled()");
-const strike = (browser, key) => browser.value(`void (document.activeElement ?? document.body).dispatchEvent(new KeyboardEvent("keydown", { key: "${key}", bubbles: true }))`);
+const strike = (browser, key) => browser.value(
+    `void (document.activeElement ?? document.body).dispatchEvent(new KeyboardEvent("keydown", { key: "${key}", bubbles: true }))`
+);
 const stepHere = (browser) => browser.value("new URLSearchParams(location.search).get('step')");
 
-/** What is seen: controls that are not the view's own, whether all is in the window, and the size of the step's letters and of its words, against the height of the window. */
+/**
+ * What is seen: controls that are not the view's own, whether all is in the window, and the size of the step's letters and of its words,
+ * against the height of the window.
+ */
 const seen = (browser) => browser.value(`(() => {
     const size = (selector) => parseFloat(getComputedStyle(document.querySelector(selector)).fontSize);
     const controls = [...document.querySelectorAll("#page :is(button, input, select, a[href], summary)")].filter((it) => it.checkVisibility({ visibilityProperty: true }) && it.closest(${JSON.stringify(OWN)}) === null);
@@ -25,17 +30,26 @@ async function projector(browser, address) {
         await browser.open(`${address}?lang=${width === 1280 ? "de" : "en"}&lesson=${step}&projector`);
         await settled(browser);
         const { others, within, what, word, drum } = await seen(browser);
-        assert.deepEqual([others, within, what > 0.034, word > 0.02, drum > 0.35], [[], [], true, true, true], `${step} at ${width} by ${height}: ${what} ${word} ${drum}`);
+        assert.deepEqual(
+            [others, within, what > 0.034, word > 0.02, drum > 0.35],
+            [[], [], true, true, true],
+            `${step} at ${width} by ${height}: ${what} ${word} ${drum}`
+        );
     }
     await browser.size(1500, 1250);
 }
 
-/** A link leads from a lesson to the view; a presenter's keys turn the steps, the machine does what the step asks, and Escape leads back to the pupil's view of the same step. */
+/**
+ * A link leads from a lesson to the view; a presenter's keys turn the steps, the machine does what the step asks, and Escape leads back to
+ * the pupil's view of the same step.
+ */
 async function projectorKeys(browser, address) {
     await browser.open(`${address}?lang=en&lesson=a-computer-on-a-drum&step=3`);
     await settled(browser);
     await browser.press("#to-projector");
-    assert.equal(await browser.value("document.body.hasAttribute('data-projector') && new URLSearchParams(location.search).has('projector')"), true);
+    assert.equal(
+        await browser.value("document.body.hasAttribute('data-projector') && new URLSearchParams(location.search).has('projector')"), true
+    );
     for (const key of ["PageDown", "PageDown"]) {
         await strike(browser, key);
         await settled(browser);
@@ -47,7 +61,15 @@ async function projectorKeys(browser, address) {
     await strike(browser, "PageUp");
     await browser.waitFor("new URLSearchParams(location.search).get('step') === '4' && laboratoryOfPage().panel.clock === 0n");
     await strike(browser, "Escape");
-    assert.deepEqual([await stepHere(browser), await browser.value("[document.body.hasAttribute('data-projector'), new URLSearchParams(location.search).has('projector'), document.querySelector('.doors').checkVisibility(), document.querySelector('#leave-projector').checkVisibility()]")], ["4", [false, false, true, false]]);
+    assert.deepEqual(
+        [
+            await stepHere(browser),
+            await browser.value(
+                "[document.body.hasAttribute('data-projector'), new URLSearchParams(location.search).has('projector'), document.querySelector('.doors').checkVisibility(), document.querySelector('#leave-projector').checkVisibility()]"
+            ),
+        ],
+        ["4", [false, false, true, false]]
+    );
     await browser.value("void history.back()");
     await browser.waitFor("document.body.hasAttribute('data-projector')");
 }
@@ -55,4 +77,6 @@ async function projectorKeys(browser, address) {
 const VISITS = { projector, projectorKeys };
 
 /** The visits of a teacher with a projector, by their names. */
-export const visitsOfProjector = (address) => Object.fromEntries(Object.entries(VISITS).map(([name, visit]) => [name, (browser) => visit(browser, address)]));
+export const visitsOfProjector = (address) => (
+    Object.fromEntries(Object.entries(VISITS).map(([name, visit]) => [name, (browser) => visit(browser, address)]))
+);

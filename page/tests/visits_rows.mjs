@@ -1,16 +1,22 @@
-// Visits of people with small windows: the drum of a lesson and the editor of a task have room, lists end with a whole row, and what is scrolled has a thumb of the page's own.
+// Visits of people with small windows: the drum of a lesson and the editor of a task have room, lists end with a whole row, and what is
+// scrolled has a thumb of the page's own.
 import assert from "node:assert/strict";
 
 const settled = (browser) => browser.value("laboratoryOfPage().settled()");
 const pictured = "await new Promise((resolve) => requestAnimationFrame(() => requestAnimationFrame(resolve)));";
 
-/** At 1,024 by 768 the drum of a lesson has more than half of the width, with all of its numbers; there and in larger windows a task's editor has nine lines, and nothing of either is outside of the window. */
+/**
+ * At 1,024 by 768 the drum of a lesson has more than half of the width, with all of its numbers; there and in larger windows a task's
+ * editor has nine lines, and nothing of either is outside of the window.
+ */
 async function roomToLearn(browser, address) {
     for (const code of ["en", "de"]) {
         await browser.size(1024, 768);
         await browser.open(`${address}?lang=${code}&lesson=rewriting&step=12`);
         await settled(browser);
-        const [drum, column, numbers] = await browser.value("[document.querySelector('.drum-box').offsetWidth, document.querySelector('.cabinet').offsetWidth / document.querySelector('main').offsetWidth, [...document.querySelectorAll('.cell text')].filter((it) => it.checkVisibility({ visibilityProperty: true })).length]");
+        const [drum, column, numbers] = await browser.value(
+            "[document.querySelector('.drum-box').offsetWidth, document.querySelector('.cabinet').offsetWidth / document.querySelector('main').offsetWidth, [...document.querySelectorAll('.cell text')].filter((it) => it.checkVisibility({ visibilityProperty: true })).length]"
+        );
         assert.ok(drum >= 500 && column >= 0.55, `the drum of a lesson has ${drum} pixels, ${column} of the width`);
         assert.equal(numbers, 64);
         assert.ok(await browser.value("document.querySelector('.lesson .steps').offsetHeight >= 140"));
@@ -20,11 +26,17 @@ async function roomToLearn(browser, address) {
             await settled(browser);
             const lines = await browser.value("document.querySelector('.task-desk .CodeMirror').clientHeight / 21");
             assert.ok(lines >= 9, `a task's editor has ${lines} lines at ${width} by ${height}`);
-            const outside = await browser.value("[...document.querySelectorAll('main > *')].map((it) => it.getBoundingClientRect()).filter(({ left, right, bottom }) => left < 0 || right > innerWidth || bottom > innerHeight).length");
+            const outside = await browser.value(
+                "[...document.querySelectorAll('main > *')].map((it) => it.getBoundingClientRect()).filter(({ left, right, bottom }) => left < 0 || right > innerWidth || bottom > innerHeight).length"
+            );
             assert.equal(outside, 0);
-            const cut = await browser.value("(() => { const end = document.querySelector('.scope').getBoundingClientRect().bottom; return [...document.querySelectorAll('.trace-value > *')].filter((it) => it.checkVisibility() && it.getBoundingClientRect().bottom > end).map((it) => it.textContent); })()");
+            const cut = await browser.value(
+                "(() => { const end = document.querySelector('.scope').getBoundingClientRect().bottom; return [...document.querySelectorAll('.trace-value > *')].filter((it) => it.checkVisibility() && it.getBoundingClientRect().bottom > end).map((it) => it.textContent); })()"
+            );
             assert.deepEqual(cut, [], `values of the registers are cut at ${width} by ${height}`);
-            assert.deepEqual(await browser.value("[...document.querySelectorAll('.tasks button.primary')].map((it) => it.id)"), ["check-task"]);
+            assert.deepEqual(
+                await browser.value("[...document.querySelectorAll('.tasks button.primary')].map((it) => it.id)"), ["check-task"]
+            );
         }
     }
     await browser.size(1500, 1250);
@@ -65,7 +77,9 @@ const cutNow = (browser) => browser.value(`(async () => {
 /** Behind each door no row is cut, wherever the machine is, and no bar of the browser's is there; the thumb of a list leads to its end. */
 async function wholeRows(browser, address) {
     if (browser.ask === undefined) return "but not looked at: in this browser a row at the head of a list may still be cut";
-    for (const [width, height] of [[1366, 768], [1440, 900], [1024, 768]]) for (const behind of ["?story=2&caption=4", "?door=work#self-modifying", "?lesson=rewriting&step=12"]) {
+    for (const [width, height] of [
+        [1366, 768], [1440, 900], [1024, 768],
+    ]) for (const behind of ["?story=2&caption=4", "?door=work#self-modifying", "?lesson=rewriting&step=12"]) {
         await browser.size(width, height);
         await browser.open(`${address}${behind.replace("?", "?lang=en&")}`);
         await settled(browser);
@@ -85,21 +99,37 @@ async function wholeRows(browser, address) {
     await browser.closeDialog();
     await browser.value("laboratoryOfPage().step(14)");
     await settled(browser);
-    const thumb = await browser.value(`(async () => { ${pictured} const { left, right } = document.querySelector(".source .CodeMirror").getBoundingClientRect(); const it = [...document.querySelectorAll(".thumb:not([hidden])")].map((node) => node.getBoundingClientRect()).find((at) => Math.abs(at.right - right) < 22); return [it.left + it.width / 2, it.top + 5, document.querySelector(".thumbs").getAttribute("aria-hidden")]; })()`);
+    const thumb = await browser.value(
+        `(async () => { ${pictured} const { left, right } = document.querySelector(".source .CodeMirror").getBoundingClientRect(); const it = [...document.querySelectorAll(".thumb:not([hidden])")].map((node) => node.getBoundingClientRect()).find((at) => Math.abs(at.right - right) < 22); return [it.left + it.width / 2, it.top + 5, document.querySelector(".thumbs").getAttribute("aria-hidden")]; })()`
+    );
     assert.equal(thumb[2], "true");
     const [x, y] = thumb.map(Math.round);
     await browser.lead([[x, y], "down", [x, y + 60], [x, y + 700], "up"]);
-    assert.ok(await browser.value("(({ top, height, clientHeight }) => top >= height - clientHeight - 2)(document.querySelector('.source .CodeMirror').CodeMirror.getScrollInfo())"));
+    assert.ok(
+        await browser.value(
+            "(({ top, height, clientHeight }) => top >= height - clientHeight - 2)(document.querySelector('.source .CodeMirror').CodeMirror.getScrollInfo())"
+        )
+    );
     await browser.size(1500, 1250);
     return undefined;
 }
 
 /** What the menu has in each section, in its order. */
-const MENU = { hall: ["example", "sound", "kiosk", "language", "about"], look: ["example", "sound", "kiosk", "language", "about"], learn: ["share", "works", "example", "sound", "kiosk", "language", "about"], work: ["new", "open", "save", "share", "works", "example", "sound", "kiosk", "language", "about"] };
+const MENU = {
+    hall: ["example", "sound", "kiosk", "language", "about"],
+    look: ["example", "sound", "kiosk", "language", "about"],
+    learn: ["share", "works", "example", "sound", "kiosk", "language", "about"],
+    work: ["new", "open", "save", "share", "works", "example", "sound", "kiosk", "language", "about"],
+};
 
-/** Behind each door, at each size, one button leads to what stood in a row of boxes: nothing of it is seen before, all of it lies in the window, and keys alone open it, go through it, and shut it. A press beside it shuts it too. */
+/**
+ * Behind each door, at each size, one button leads to what stood in a row of boxes: nothing of it is seen before, all of it lies in the
+ * window, and keys alone open it, go through it, and shut it. A press beside it shuts it too.
+ */
 async function menu(browser, address) {
-    const inMenu = () => browser.value("[...document.querySelectorAll('#choices :is(button, select)')].filter((it) => it.checkVisibility()).map((it) => it.id)");
+    const inMenu = () => browser.value(
+        "[...document.querySelectorAll('#choices :is(button, select)')].filter((it) => it.checkVisibility()).map((it) => it.id)"
+    );
     const focused = () => browser.value("document.activeElement.id || document.activeElement.className");
     for (const [width, height] of [[1366, 768], [1024, 768], [1920, 1080], [390, 844]]) {
         await browser.size(width, height);
@@ -109,7 +139,13 @@ async function menu(browser, address) {
             assert.deepEqual([await inMenu(), await browser.value("document.querySelector('.menu').checkVisibility()")], [[], true], door);
             await browser.press(".menu");
             assert.deepEqual(await inMenu(), wanted, door);
-            assert.equal(await browser.value("(({ left, top, right, bottom }) => left >= 0 && top >= 0 && right <= innerWidth && bottom <= innerHeight)(document.querySelector('#choices').getBoundingClientRect())"), true, `${door} at ${width}`);
+            assert.equal(
+                await browser.value(
+                    "(({ left, top, right, bottom }) => left >= 0 && top >= 0 && right <= innerWidth && bottom <= innerHeight)(document.querySelector('#choices').getBoundingClientRect())"
+                ),
+                true,
+                `${door} at ${width}`
+            );
             await browser.press(".menu");
             assert.deepEqual(await inMenu(), []);
         }
@@ -144,4 +180,6 @@ async function menu(browser, address) {
 const VISITS = { roomToLearn, wholeRows, menu };
 
 /** The visits of the page at an address, by their names. */
-export const visitsOfRows = (address) => Object.fromEntries(Object.entries(VISITS).map(([name, visit]) => [name, (browser) => visit(browser, address)]));
+export const visitsOfRows = (address) => (
+    Object.fromEntries(Object.entries(VISITS).map(([name, visit]) => [name, (browser) => visit(browser, address)]))
+);

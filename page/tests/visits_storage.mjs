@@ -1,9 +1,12 @@
-// Visits of people who write something and then press all that can be pressed, load the page again, go back and change the language: what they wrote is there again each time. And the address says
+// Visits of people who write something and then press all that can be pressed, load the page again, go back and change the language: what
+// they wrote is there again each time. And the address says
 // where one is.
 import assert from "node:assert/strict";
 
 const settled = (browser) => browser.value("laboratoryOfPage().settled()");
-const panelOf = (browser) => browser.value("(({ counter, status, clock }) => ({ counter, status, clock: String(clock) }))(laboratoryOfPage().panel)");
+const panelOf = (browser) => (
+    browser.value("(({ counter, status, clock }) => ({ counter, status, clock: String(clock) }))(laboratoryOfPage().panel)")
+);
 const textOf = (browser, selector) => browser.value(`document.querySelector(${JSON.stringify(selector)})?.innerText ?? ""`);
 const isReady = "document.documentElement.dataset.ready === 'true'";
 const NOW = ".lesson li.now";
@@ -22,7 +25,9 @@ async function again(browser) {
 
 /** Changes the language to the other one. */
 async function otherLanguage(browser) {
-    await browser.value("(() => { const it = document.getElementById('language'); it.value = it.value === 'de' ? 'en' : 'de'; it.dispatchEvent(new Event('change')); })()");
+    await browser.value(
+        "(() => { const it = document.getElementById('language'); it.value = it.value === 'de' ? 'en' : 'de'; it.dispatchEvent(new Event('change')); })()"
+    );
     await settled(browser);
 }
 
@@ -31,10 +36,15 @@ const EDITOR = " .CodeMirror";
 
 async function write(browser, selector, text) {
     if (selector.endsWith(EDITOR)) return browser.write(text, selector.slice(0, -EDITOR.length));
-    return browser.value(`(() => { const it = document.querySelector(${JSON.stringify(selector)}); it.value = ${JSON.stringify(text)}; it.dispatchEvent(new Event("input")); })()`);
+    return browser.value(
+        `(() => { const it = document.querySelector(${JSON.stringify(selector)}); it.value = ${JSON.stringify(text)}; it.dispatchEvent(new Event("input")); })()`
+    );
 }
 
-const choose = (browser, id, value) => browser.value(`(() => { const it = document.getElementById("${id}"); it.value = "${value}"; it.dispatchEvent(new Event("change")); })()`).then(() => settled(browser));
+const choose =
+    (browser, id, value) => browser.value(
+        `(() => { const it = document.getElementById("${id}"); it.value = "${value}"; it.dispatchEvent(new Event("change")); })()`
+    ).then(() => settled(browser));
 
 const SOURCE = ".source .CodeMirror";
 const LINE = ".lines input";
@@ -43,13 +53,17 @@ const VALUE = "((it) => it?.CodeMirror?.getValue() ?? it?.value)";
 const valueOf = (browser, selector) => browser.value(`${VALUE}(document.querySelector(${JSON.stringify(selector)})) ?? null`);
 
 /** What was written in Work, by its fields. */
-const WRITTEN = { [SOURCE]: "; not assembled yet\n b 0050", [LINE]: "; a line that is not sent", [".tape input"]: "7'7'", [".listing form input"]: "0123" };
+const WRITTEN = {
+    [SOURCE]: "; not assembled yet\n b 0050", [LINE]: "; a line that is not sent", [".tape input"]: "7'7'", [".listing form input"]: "0123",
+};
 
 async function writeAll(browser) {
     for (const [selector, text] of Object.entries(WRITTEN)) await write(browser, selector, text);
 }
 
-const areWritten = (browser) => browser.value(`Object.entries(${JSON.stringify(WRITTEN)}).filter(([selector, text]) => ${VALUE}(document.querySelector(selector)) !== text).map(([selector]) => selector)`);
+const areWritten = (browser) => browser.value(
+    `Object.entries(${JSON.stringify(WRITTEN)}).filter(([selector, text]) => ${VALUE}(document.querySelector(selector)) !== text).map(([selector]) => selector)`
+);
 
 /** Goes back to the work before by the list of works. */
 async function backByList(browser, place = 0) {
@@ -72,7 +86,9 @@ async function backToWork(browser) {
     await settled(browser);
 }
 
-const noteKeys = (browser) => browser.value("void (globalThis.dispatchKeys = () => { document.body.dispatchEvent(new KeyboardEvent('keydown', { key: 'L', ctrlKey: true, shiftKey: true, bubbles: true })); })");
+const noteKeys = (browser) => browser.value(
+    "void (globalThis.dispatchKeys = () => { document.body.dispatchEvent(new KeyboardEvent('keydown', { key: 'L', ctrlKey: true, shiftKey: true, bubbles: true })); })"
+);
 
 /** All that is written is found: in its fields, or, where another work has begun, in the one before. */
 async function isFound(browser, where) {
@@ -91,7 +107,10 @@ async function isFound(browser, where) {
     }
 }
 
-/** The controls that are seen, by their names; of keys that do the same there is one, and so of the addresses of the program. `Send` sends what is written, and `Open` and the sheet ask the browser for something. */
+/**
+ * The controls that are seen, by their names; of keys that do the same there is one, and so of the addresses of the program. `Send` sends
+ * what is written, and `Open` and the sheet ask the browser for something.
+ */
 const CONTROLS = `[...document.querySelectorAll("#page :is(button, summary, a[href]):not(#notices *)")].filter((it) => it.checkVisibility()).map((it) => [it.closest("tr[data-address]") !== null ? "an address" : it.id || it.dataset.name || it.dataset.doorTo || it.dataset.lesson || it.dataset.task || it.dataset.tale || it.getAttribute("aria-label") || it.textContent, it])
     .filter(([name], place, all) => all.findIndex((it) => it[0] === name) === place && !["open", "Send", "Sheet to print"].includes(name))`;
 
@@ -100,9 +119,13 @@ const LONGEST_BACK = 1000;
 
 /** Goes back; where that leaves the page, forward again. */
 async function goneBack(browser) {
-    const isBack = browser.value("new Promise((resolve) => { addEventListener('popstate', () => resolve(true), { once: true }); history.back(); })").catch(() => {});
+    const isBack = browser.value(
+        "new Promise((resolve) => { addEventListener('popstate', () => resolve(true), { once: true }); history.back(); })"
+    ).catch(() => {});
     await Promise.race([isBack, new Promise((resolve) => { setTimeout(resolve, LONGEST_BACK); })]);
-    if (await browser.value("document.querySelector('#page') === null").catch(() => true)) await browser.value("void history.forward()").catch(() => {});
+    if (await browser.value("document.querySelector('#page') === null").catch(() => true)) {
+        await browser.value("void history.forward()").catch(() => {});
+    }
     await browser.waitFor(`${isReady}`);
     await settled(browser);
 }
@@ -117,7 +140,10 @@ const WAYS = {
 /** Which of the controls are pressed: all, or in a slow engine each third. */
 const pressed = ({ engine }, place) => engine !== "WebKit" || place % 3 === 1;
 
-/** Presses each control that is seen behind a door, one after another, after something was written in Work; and goes each of the ways after each third. */
+/**
+ * Presses each control that is seen behind a door, one after another, after something was written in Work; and goes each of the ways after
+ * each third.
+ */
 async function pressEach(browser, door) {
     const goThere = () => (door === "work" ? undefined : press(browser, `.doors [data-door-to="${door}"]`));
     await backToWork(browser);
@@ -156,7 +182,9 @@ async function undo(browser, address) {
     await browser.value("laboratoryOfPage().say('put 0000 b 0003', 'put 0003 = 4', 'press start', 'run 1')");
     await writeAll(browser);
     const before = await panelOf(browser);
-    for (const action of [() => press(browser, "#new"), () => choose(browser, "example", "first-run"), () => choose(browser, "example", "drum/household")]) {
+    for (const action of [
+        () => press(browser, "#new"), () => choose(browser, "example", "first-run"), () => choose(browser, "example", "drum/household"),
+    ]) {
         await action();
         await browser.waitFor("document.querySelector('#notice:not([hidden]) button') !== null");
         assert.notDeepEqual(await panelOf(browser), before);
@@ -176,7 +204,9 @@ async function undo(browser, address) {
 /** After New no example is named, its script is away, and it can be chosen again. */
 async function afterNew(browser, address) {
     await browser.open(`${address}?lang=en#self-modifying`);
-    const state = () => browser.value("[document.getElementById('example').value, !document.querySelector('.part.script').hidden, !document.querySelector('.explanation').hidden, location.hash]");
+    const state = () => browser.value(
+        "[document.getElementById('example').value, !document.querySelector('.part.script').hidden, !document.querySelector('.explanation').hidden, location.hash]"
+    );
     assert.deepEqual(await state(), ["self-modifying", true, true, "#self-modifying"]);
     await press(browser, "#new");
     assert.deepEqual(await state(), ["", false, false, ""]);
@@ -199,7 +229,11 @@ async function exampleFromAnywhere(browser, address) {
         await choose(browser, "example", "self-modifying");
         await browser.waitFor("document.body.dataset.door === 'work' && location.hash === '#self-modifying'");
         await settled(browser);
-        assert.deepEqual([await browser.value("document.getElementById('example').value"), (await panelOf(browser)).status], ["self-modifying", "going"], behind);
+        assert.deepEqual(
+            [await browser.value("document.getElementById('example').value"), (await panelOf(browser)).status],
+            ["self-modifying", "going"],
+            behind
+        );
     }
 }
 
@@ -219,10 +253,15 @@ async function tenWorks(browser, address) {
     assert.equal(await valueOf(browser, SOURCE), "; work 8\n z");
 }
 
-const stepNow = (browser) => browser.value(`[document.querySelector("${NOW} .mark")?.textContent ?? null, new URLSearchParams(location.search).get("step")]`);
+const stepNow = (browser) => (
+    browser.value(`[document.querySelector("${NOW} .mark")?.textContent ?? null, new URLSearchParams(location.search).get("step")]`)
+);
 const reached = (browser, step) => browser.waitFor(`document.querySelector("${NOW} .mark")?.textContent === "${step}"`);
 
-/** Going back and forth in a lesson leaves one work at most, however often; a machine at which the pupil has done something since is kept as one. */
+/**
+ * Going back and forth in a lesson leaves one work at most, however often; a machine at which the pupil has done something since is kept as
+ * one.
+ */
 async function backAndForth(browser) {
     const count = async () => {
         await browser.press("#works");
@@ -246,7 +285,10 @@ async function backAndForth(browser) {
     assert.equal(await browser.value("laboratoryOfPage().lines.includes('put 0050 = 7')"), true);
 }
 
-/** The address names the step of a lesson: it is reached by it, with its machine; a reload stays there with what was written and done; Back is one step back. */
+/**
+ * The address names the step of a lesson: it is reached by it, with its machine; a reload stays there with what was written and done; Back
+ * is one step back.
+ */
 async function stepsByAddress(browser, address) {
     await browser.open(`${address}?lang=en&lesson=rewriting&step=9`);
     await reached(browser, 9);
@@ -255,7 +297,12 @@ async function stepsByAddress(browser, address) {
     await write(browser, `${NOW} .answer input`, "a 00");
     await write(browser, `${NOW} .types input`, "; half a line");
     const before = await panelOf(browser);
-    const state = async () => [await panelOf(browser), await valueOf(browser, `${NOW} .answer input`), await valueOf(browser, `${NOW} .types input`), await stepNow(browser)];
+    const state = async () => [
+        await panelOf(browser),
+        await valueOf(browser, `${NOW} .answer input`),
+        await valueOf(browser, `${NOW} .types input`),
+        await stepNow(browser),
+    ];
     const wanted = [before, "a 00", "; half a line", ["9", "9"]];
     await again(browser);
     await reached(browser, 9);
@@ -263,7 +310,9 @@ async function stepsByAddress(browser, address) {
     await otherLanguage(browser);
     await reached(browser, 9);
     assert.deepEqual(await state(), wanted);
-    await browser.value(`(() => { const form = document.querySelector("${NOW} .answer"); form.querySelector("input").value = laboratoryOfPage().words.find(({ address }) => address === "0001").order; form.requestSubmit(); })()`);
+    await browser.value(
+        `(() => { const form = document.querySelector("${NOW} .answer"); form.querySelector("input").value = laboratoryOfPage().words.find(({ address }) => address === "0001").order; form.requestSubmit(); })()`
+    );
     await browser.press("#step-next");
     await reached(browser, 10);
     assert.deepEqual(await stepNow(browser), ["10", "10"]);
@@ -272,7 +321,9 @@ async function stepsByAddress(browser, address) {
     await settled(browser);
     assert.deepEqual([await stepNow(browser), (await panelOf(browser)).counter], [["9", "9"], "0006"]);
     await backAndForth(browser);
-    for (const [name, step, counter] of [["a-computer-on-a-drum", 13, "0000"], ["reading-a-listing", 7, "0200"], ["where-a-word-costs-least", 5, "0127"]]) {
+    for (const [name, step, counter] of [
+        ["a-computer-on-a-drum", 13, "0000"], ["reading-a-listing", 7, "0200"], ["where-a-word-costs-least", 5, "0127"],
+    ]) {
         await browser.open(`${address}?lang=en&lesson=${name}&step=${step}`);
         await reached(browser, step);
         assert.deepEqual(await stepNow(browser), [String(step), String(step)], name);
@@ -290,7 +341,9 @@ async function places(browser, address) {
     await browser.value("history.back()");
     await browser.waitFor("document.querySelector('.task-desk .CodeMirror').CodeMirror.getValue() === ' z ; mine'");
     await again(browser);
-    assert.deepEqual([await valueOf(browser, ".task-desk .CodeMirror"), await browser.value("location.search")], [" z ; mine", "?lang=en&task=sum"]);
+    assert.deepEqual(
+        [await valueOf(browser, ".task-desk .CodeMirror"), await browser.value("location.search")], [" z ; mine", "?lang=en&task=sum"]
+    );
     await browser.press("#begin-task");
     assert.notEqual(await valueOf(browser, ".task-desk .CodeMirror"), " z ; mine");
     await again(browser);
@@ -302,15 +355,21 @@ async function places(browser, address) {
         assert.equal(await valueOf(browser, ".task-desk .CodeMirror"), source);
     }
     await browser.open(`${address}?lang=en&story=2`);
-    const caption = () => browser.value("[document.querySelector('[data-tale][aria-pressed=true]')?.dataset.tale, document.querySelector('.caption-at').textContent, location.search]");
+    const caption = () => browser.value(
+        "[document.querySelector('[data-tale][aria-pressed=true]')?.dataset.tale, document.querySelector('.caption-at').textContent, location.search]"
+    );
     assert.deepEqual(await caption(), ["rewrite", "1 of 5", "?lang=en&story=2&caption=1"]);
     await browser.press("#caption-next");
-    await browser.waitFor("document.querySelector('.caption-at').textContent === '2 of 5' && document.querySelector('.caption').getAttribute('aria-busy') === 'false'");
+    await browser.waitFor(
+        "document.querySelector('.caption-at').textContent === '2 of 5' && document.querySelector('.caption').getAttribute('aria-busy') === 'false'"
+    );
     await again(browser);
     assert.deepEqual(await caption(), ["rewrite", "2 of 5", "?lang=en&story=2&caption=2"]);
     await browser.value("history.back()");
     await browser.waitFor("document.querySelector('.caption-at').textContent === '1 of 5'");
-    for (const [behind, told] of [["?lang=en&story=9", /unknown story: 9/], ["?lang=en&task=nonesuch", /unknown task: nonesuch\. The tasks are .*sum/]]) {
+    for (const [behind, told] of [
+        ["?lang=en&story=9", /unknown story: 9/], ["?lang=en&task=nonesuch", /unknown task: nonesuch\. The tasks are .*sum/],
+    ]) {
         await browser.open(address + behind);
         assert.match(await textOf(browser, "#notice"), told);
     }
@@ -330,4 +389,6 @@ async function languageKept(browser, address) {
 const VISITS = { eachControl, undo, afterNew, exampleFromAnywhere, tenWorks, stepsByAddress, places, languageKept };
 
 /** The visits of the page at an address, by their names. */
-export const visitsOfStorage = (address) => Object.fromEntries(Object.entries(VISITS).map(([name, visit]) => [name, (browser) => visit(browser, address)]));
+export const visitsOfStorage = (address) => (
+    Object.fromEntries(Object.entries(VISITS).map(([name, visit]) => [name, (browser) => visit(browser, address)]))
+);

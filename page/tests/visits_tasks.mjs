@@ -50,9 +50,16 @@ async function tasks(browser, address) {
         assert.equal(await browser.value("document.querySelector('.tasks').checkVisibility()"), false);
         for (const name of names) {
             await choose(browser, name);
-            assert.equal(await browser.value("document.querySelector('.task-text h3').textContent"), /^# (.*)$/m.exec(read(`../${name}/${code}.md`))[1]);
+            assert.equal(
+                await browser.value("document.querySelector('.task-text h3').textContent"),
+                /^# (.*)$/m.exec(read(`../${name}/${code}.md`))[1]
+            );
             assert.deepEqual(await outside(browser), [], name);
-            for (const kind of ["", ".wrong-1"]) assert.deepEqual(await checked(browser, read(`${name}${kind}.source`)), besides(name, kind, code), `${name}${kind} in ${code}`);
+            for (const kind of ["", ".wrong-1"]) {
+                assert.deepEqual(
+                    await checked(browser, read(`${name}${kind}.source`)), besides(name, kind, code), `${name}${kind} in ${code}`
+                );
+            }
             assert.deepEqual(await outside(browser), [], name);
         }
     }
@@ -62,7 +69,9 @@ async function tasks(browser, address) {
 
 /** A lesson or a task is open, never both, and the choice has its title. */
 async function lessonAndTask(browser) {
-    const seen = () => browser.value("[...['.tasks', '.steps'].map((it) => document.querySelector(it).checkVisibility()), document.querySelector('.lesson summary').textContent]");
+    const seen = () => browser.value(
+        "[...['.tasks', '.steps'].map((it) => document.querySelector(it).checkVisibility()), document.querySelector('.lesson summary').textContent]"
+    );
     const titleOf = (selector) => browser.value(`document.querySelector(${JSON.stringify(selector)}).textContent`);
     const [rewriting, sum] = ["[data-lesson='rewriting']", "[data-task='sum']"];
     for (const [open, isTask] of [[rewriting, false], [sum, true], [rewriting, false]]) {
@@ -73,7 +82,10 @@ async function lessonAndTask(browser) {
     }
 }
 
-/** A source stays where the page is opened again and in another language, and is begun anew; its machine is set up as the first try begins, with the source or, where that has faults, without it. */
+/**
+ * A source stays where the page is opened again and in another language, and is begun anew; its machine is set up as the first try begins,
+ * with the source or, where that has faults, without it.
+ */
 async function taskSources(browser, address) {
     await browser.open(`${address}?lang=en&door=learn`);
     for (const name of ["faster", "sum"]) await choose(browser, name).then(() => browser.press("#begin-task"));
@@ -81,17 +93,32 @@ async function taskSources(browser, address) {
     await browser.open(`${address}?lang=en&door=learn`);
     await choose(browser, "sum");
     assert.equal(await sourceOf(browser), read("sum.source"));
-    await browser.value("(() => { const it = document.querySelector('#language'); it.value = 'de'; it.dispatchEvent(new Event('change')); })()");
-    assert.deepEqual([await sourceOf(browser), await browser.value("document.querySelector('.task-text h3').textContent")], [read("sum.source"), /^# (.*)$/m.exec(read("../sum/de.md"))[1]]);
-    const put = async () => { await browser.press("#put-task"); await browser.waitFor("document.querySelector('.task-answer').textContent !== ''"); await settled(browser); };
+    await browser.value(
+        "(() => { const it = document.querySelector('#language'); it.value = 'de'; it.dispatchEvent(new Event('change')); })()"
+    );
+    assert.deepEqual(
+        [await sourceOf(browser), await browser.value("document.querySelector('.task-text h3').textContent")],
+        [read("sum.source"), /^# (.*)$/m.exec(read("../sum/de.md"))[1]]
+    );
+    const put = async () => {
+        await browser.press("#put-task");
+        await browser.waitFor("document.querySelector('.task-answer').textContent !== ''");
+        await settled(browser);
+    };
     await put();
-    assert.deepEqual([await browser.value("laboratoryOfPage().panel.status"), await answerOf(browser)], ["going", ["Die Maschine steht, wo der erste Versuch beginnt: Schritt und Weiter gehen von hier aus weiter."]]);
+    assert.deepEqual(
+        [await browser.value("laboratoryOfPage().panel.status"), await answerOf(browser)],
+        ["going", ["Die Maschine steht, wo der erste Versuch beginnt: Schritt und Weiter gehen von hier aus weiter."]]
+    );
     await browser.value("laboratoryOfPage().run()");
     assert.equal(await browser.value("laboratoryOfPage().say('words 0302 1')"), "0302 00000018\n");
     await write(browser, read("sum.wrong-2.source"));
     await put();
     assert.deepEqual(await answerOf(browser), besides("sum", ".wrong-2", "de"));
-    assert.deepEqual([await browser.value("laboratoryOfPage().say('words 0300 2')"), await browser.value("laboratoryOfPage().say('words 0000 1')")], ["0300 0000000f\n0301 0000000q\n", "0000 00000000\n"]);
+    assert.deepEqual(
+        [await browser.value("laboratoryOfPage().say('words 0300 2')"), await browser.value("laboratoryOfPage().say('words 0000 1')")],
+        ["0300 0000000f\n0301 0000000q\n", "0000 00000000\n"]
+    );
     await browser.press("#begin-task");
     assert.equal(await sourceOf(browser), "");
     await choose(browser, "faster");
@@ -99,7 +126,10 @@ async function taskSources(browser, address) {
     await lessonAndTask(browser);
 }
 
-/** The part with a task is for everyone: names, contrast and headings in light and dark, and the way by Tab, which is gone in Chromium; and at each width nothing has to be scrolled sideways. */
+/**
+ * The part with a task is for everyone: names, contrast and headings in light and dark, and the way by Tab, which is gone in Chromium; and
+ * at each width nothing has to be scrolled sideways.
+ */
 async function taskForAll(browser, address) {
     await browser.ask?.("Accessibility.enable");
     for (const code of ["en", "de"]) {
@@ -119,7 +149,13 @@ async function taskForAll(browser, address) {
         }
         for (const width of [380, 768, 1024, 1920]) {
             await browser.size(width, 900);
-            assert.deepEqual(await browser.value("[document.documentElement.scrollWidth <= innerWidth, ...['.task-text', '.task-answer'].map((it) => document.querySelector(it)).map((it) => it.scrollWidth <= it.clientWidth + 1)]"), [true, true, true], `${width}`);
+            assert.deepEqual(
+                await browser.value(
+                    "[document.documentElement.scrollWidth <= innerWidth, ...['.task-text', '.task-answer'].map((it) => document.querySelector(it)).map((it) => it.scrollWidth <= it.clientWidth + 1)]"
+                ),
+                [true, true, true],
+                `${width}`
+            );
         }
         for (const [width, height] of [[1280, 720], [1920, 1080]]) {
             await browser.size(width, height);
@@ -131,7 +167,9 @@ async function taskForAll(browser, address) {
     await browser.ask?.("Accessibility.disable");
 }
 
-/** The files of a class, dropped on a task, are all checked, and what is said of them can be saved; the pupil's own source stays as it is. */
+/**
+ * The files of a class, dropped on a task, are all checked, and what is said of them can be saved; the pupil's own source stays as it is.
+ */
 async function taskClass(browser, address) {
     await browser.open(`${address}?lang=de&task=sum`);
     await write(browser, "start z\n end start\n");
@@ -140,11 +178,17 @@ async function taskClass(browser, address) {
         files: Array.from({ length: 30 }, (unused, pupil) => new File([${JSON.stringify(texts)}[pupil % 2]], String(pupil).padStart(2, "0") + ".source")) } }))`);
     await browser.waitFor("document.querySelector('dialog #save-class')");
     assert.equal(await browser.value("document.querySelector('dialog p').textContent"), "15 von 30 Dateien sind richtig.");
-    const told = await browser.value("document.querySelector('dialog pre').textContent.split('\\n').filter((line) => !line.startsWith('    '))");
-    assert.deepEqual([told.length, told[0].startsWith("00.source: richtig"), told[1].startsWith("01.source: noch nicht")], [31, true, true]);
+    const told = await browser.value(
+        "document.querySelector('dialog pre').textContent.split('\\n').filter((line) => !line.startsWith('    '))"
+    );
+    assert.deepEqual(
+        [told.length, told[0].startsWith("00.source: richtig"), told[1].startsWith("01.source: noch nicht")], [31, true, true]
+    );
     await browser.closeDialog();
     assert.equal(await sourceOf(browser), "start z\n end start\n");
 }
 
 /** The visits of the page at an address, by their names. */
-export const visitsOfTasks = (address) => Object.fromEntries(Object.entries({ tasks, taskSources, taskForAll, taskClass }).map(([name, visit]) => [name, (browser) => visit(browser, address)]));
+export const visitsOfTasks = (address) => Object.fromEntries(
+    Object.entries({ tasks, taskSources, taskForAll, taskClass }).map(([name, visit]) => [name, (browser) => visit(browser, address)])
+);

@@ -1,4 +1,5 @@
-// Visits of the workbench: all of it is in one window, nothing moves when a run begins or something is printed, the last orders are told after each run, and the map of the drum tells of its words.
+// Visits of the workbench: all of it is in one window, nothing moves when a run begins or something is printed, the last orders are told
+// after each run, and the map of the drum tells of its words.
 import assert from "node:assert/strict";
 import { boxes, hiddenTexts, laidOut, unhit, unseenAtLast } from "./seen.mjs";
 
@@ -28,14 +29,24 @@ async function oneWindow(browser, address) {
             await browser.size(width, height);
             await browser.waitFor("(innerWidth <= 760) === (document.querySelector('.phone-tabs .tablist') !== null)");
             await laidOut(browser);
-            const tabs = width > 760 ? [null] : await browser.value("[...document.querySelectorAll('.phone-tabs > .tablist button')].map((it) => it.id)");
+            const tabs = width > 760
+                ? [null]
+                : await browser.value("[...document.querySelectorAll('.phone-tabs > .tablist button')].map((it) => it.id)");
             if (width <= 760) assert.equal(tabs.length, 4);
             for (const tab of tabs) {
                 if (tab !== null) await browser.press(`#${tab}`);
                 assert.deepEqual(await beyond(browser), [], `${code} at ${width} by ${height} ${tab}`);
-                assert.deepEqual(await browser.value("[document.documentElement.scrollHeight <= innerHeight, document.documentElement.scrollWidth <= innerWidth]"), [true, true], `${code} at ${width} by ${height} ${tab}`);
+                assert.deepEqual(
+                    await browser.value(
+                        "[document.documentElement.scrollHeight <= innerHeight, document.documentElement.scrollWidth <= innerWidth]"
+                    ),
+                    [true, true],
+                    `${code} at ${width} by ${height} ${tab}`
+                );
             }
-            const seen = await browser.value("['.source', '.drum-box', '.console', '.accounts', '.listing', '.paper', '.timeline', '#run-program'].filter((it) => document.querySelector(it)?.checkVisibility())");
+            const seen = await browser.value(
+                "['.source', '.drum-box', '.console', '.accounts', '.listing', '.paper', '.timeline', '#run-program'].filter((it) => document.querySelector(it)?.checkVisibility())"
+            );
             if (width >= 1280) assert.equal(seen.length, 8, `${code} at ${width}: ${seen}`);
         }
     }
@@ -45,7 +56,13 @@ async function oneWindow(browser, address) {
 /** What of Work is seen in which state: what is opened, and what is done there. */
 const STATES = {
     run: ["#self-modifying", (browser) => press(browser, "#go-on")],
-    fault: ["", async (browser) => { await browser.write("start b one\n a tow\n z\none word 2\n end start"); await browser.waitFor("/^Line|^Zeile/.test(document.querySelector('.source .told').textContent)"); }],
+    fault: [
+        "",
+        async (browser) => {
+            await browser.write("start b one\n a tow\n z\none word 2\n end start");
+            await browser.waitFor("/^Line|^Zeile/.test(document.querySelector('.source .told').textContent)");
+        },
+    ],
     keys: ["#input-and-output/decimal-input", (browser) => press(browser, "#go-on")],
     card: ["", async (browser) => { await browser.write("start b one"); await press(browser, "#card-open"); }],
     refused: ["#self-modifying", (browser) => press(browser, ".console button[data-name='start']")],
@@ -57,7 +74,10 @@ const IN_GERMAN = ["run", "fault"];
 /** The tabs that are seen, by what leads to each: of tabs within tabs the outer ones are chosen first. */
 const TABS = "[...document.querySelectorAll('.tablist button')].map(({ id }) => id)";
 
-/** Texts that are hidden, and controls that are not hit, but where a card lies upon them, once the page has been laid out: a drawing that comes to be seen has its size some pictures after that. */
+/**
+ * Texts that are hidden, and controls that are not hit, but where a card lies upon them, once the page has been laid out: a drawing that
+ * comes to be seen has its size some pictures after that.
+ */
 async function notWhole(browser, hasCard) {
     const look = async () => [...await hiddenTexts(browser), ...hasCard ? [] : await unhit(browser)];
     let found = await look();
@@ -70,7 +90,9 @@ async function notWhole(browser, hasCard) {
 
 /** In each state, at each size and under each tab no text is too small or cut off, and each control is hit by itself. */
 async function seenWhole(browser, address) {
-    for (const [code, [state, [behind, action]]] of ["en", "de"].flatMap((it) => Object.entries(STATES).filter(([name]) => it === "en" || IN_GERMAN.includes(name)).map((entry) => [it, entry]))) {
+    for (const [code, [state, [behind, action]]] of ["en", "de"].flatMap((it) => (
+        Object.entries(STATES).filter(([name]) => it === "en" || IN_GERMAN.includes(name)).map((entry) => [it, entry])
+    ))) {
         await browser.size(...SIZES[0]);
         await browser.open(`${address}?lang=${code}&door=work${behind}`);
         await action(browser);
@@ -79,7 +101,11 @@ async function seenWhole(browser, address) {
             await browser.waitFor("(innerWidth <= 760) === (document.querySelector('.phone-tabs .tablist') !== null)");
             await laidOut(browser);
             for (const tab of await browser.value(TABS)) {
-                if (!await browser.value(`(() => { const it = document.getElementById("${tab}"); it?.click(); return it?.checkVisibility() === true; })()`)) continue;
+                if (!await browser.value(
+                    `(() => { const it = document.getElementById("${tab}"); it?.click(); return it?.checkVisibility() === true; })()`
+                )) {
+                    continue;
+                }
                 assert.deepEqual(await notWhole(browser, state === "card"), [], `${code}, ${state}, ${tab} at ${width} by ${height}`);
             }
         }
@@ -89,7 +115,10 @@ async function seenWhole(browser, address) {
 
 const ENDLESS = "start b one\n u start\none word 00000002\n end start";
 
-/** What is told beside the time line and is not in its place: it reaches beyond it by more than a notice with buttons may, or has to be scrolled sideways. */
+/**
+ * What is told beside the time line and is not in its place: it reaches beyond it by more than a notice with buttons may, or has to be
+ * scrolled sideways.
+ */
 const outOfPlace = (browser) => browser.value(`(() => {
     const tells = document.querySelector(".tells");
     const [{ top, bottom }, isScrolled] = [tells.getBoundingClientRect(), getComputedStyle(tells).overflowY !== "visible"];
@@ -100,8 +129,10 @@ const outOfPlace = (browser) => browser.value(`(() => {
     });
 })()`);
 
-/** A run that goes on until it is stopped moves nothing, at no size and in no language, not while what it does is told nor after it; the offer of an earlier work steps back for that, unless it has the
- * focus. */
+/**
+ * A run that goes on until it is stopped moves nothing, at no size and in no language, not while what it does is told nor after it; the
+ * offer of an earlier work steps back for that, unless it has the focus.
+ */
 async function nothingMovesMeanwhile(browser, address) {
     await browser.open(`${address}?lang=en&door=work`);
     await browser.write("; mine");
@@ -116,7 +147,9 @@ async function nothingMovesMeanwhile(browser, address) {
             await laidOut(browser);
             assert.equal(await browser.value("document.querySelector('#kept').checkVisibility()"), true);
             const before = await boxes(browser);
-            const still = async (when) => assert.deepEqual([await boxes(browser), await outOfPlace(browser)], [before, []], `${code} at ${width} by ${height}, ${when}`);
+            const still = async (when) => assert.deepEqual(
+                [await boxes(browser), await outOfPlace(browser)], [before, []], `${code} at ${width} by ${height}, ${when}`
+            );
             await still("before");
             await browser.press("#run-program");
             await browser.waitFor("laboratoryOfPage().progress !== null && document.querySelector('#progress').checkVisibility()");
@@ -133,17 +166,36 @@ async function nothingMovesMeanwhile(browser, address) {
     if (!await browser.value("document.querySelector('#kept').matches(':focus-within')")) return;
     await browser.press("#run-program");
     await browser.waitFor("laboratoryOfPage().progress !== null && document.querySelector('#progress').checkVisibility()");
-    assert.deepEqual([await browser.value("document.activeElement.closest('#kept') !== null && document.activeElement.checkVisibility()"), await outOfPlace(browser)], [true, []]);
+    assert.deepEqual(
+        [
+            await browser.value("document.activeElement.closest('#kept') !== null && document.activeElement.checkVisibility()"),
+            await outOfPlace(browser),
+        ],
+        [true, []]
+    );
     await browser.halt();
     await settled(browser);
 }
 
-/** What is told of a run is seen without scrolling, and so is the sentence above it: while the run goes on, after it, and where a program waits for its operator. */
+/**
+ * What is told of a run is seen without scrolling, and so is the sentence above it: while the run goes on, after it, and where a program
+ * waits for its operator.
+ */
 async function runToldWhole(browser, address) {
     for (const code of ["en", "de"]) for (const [width, height] of [[1280, 720], [1366, 768], [1440, 900]]) {
         const whole = async (when) => {
             const missing = await unseenAtLast(browser, [".tells .way", "#progress", ".when output", ".clock-turn"]);
-            assert.deepEqual([missing, await outOfPlace(browser), await browser.value("(({ scrollHeight, clientHeight }) => scrollHeight <= clientHeight)(document.querySelector('.tells'))")], [[], [], true], `${code} at ${width} by ${height}, ${when}`);
+            assert.deepEqual(
+                [
+                    missing,
+                    await outOfPlace(browser),
+                    await browser.value(
+                        "(({ scrollHeight, clientHeight }) => scrollHeight <= clientHeight)(document.querySelector('.tells'))"
+                    ),
+                ],
+                [[], [], true],
+                `${code} at ${width} by ${height}, ${when}`
+            );
         };
         await browser.size(width, height);
         await browser.open(`${address}?lang=${code}&door=work`);
@@ -181,9 +233,17 @@ async function smallTelephone(browser, address) {
         for (const [tab, first] of Object.entries(FIRST)) {
             await browser.press(`#tab-phone-${tab}`);
             await laidOut(browser);
-            const missing = await unseenAtLast(browser, [...first, ".phone-tabs > .tablist button", ".along input", "#run-program", ".drive", ".paces label", ".tells", ".when"]);
+            const missing = await unseenAtLast(browser, [
+                ...first, ".phone-tabs > .tablist button", ".along input", "#run-program", ".drive", ".paces label", ".tells", ".when",
+            ]);
             assert.deepEqual([missing, await notWhole(browser, false)], [[], []], `${code}, ${tab} at ${width} by ${height}`);
-            assert.deepEqual(await browser.value("[document.documentElement.scrollHeight <= innerHeight, document.documentElement.scrollWidth <= innerWidth]"), [true, true], `${code}, ${tab} at ${width} by ${height}`);
+            assert.deepEqual(
+                await browser.value(
+                    "[document.documentElement.scrollHeight <= innerHeight, document.documentElement.scrollWidth <= innerWidth]"
+                ),
+                [true, true],
+                `${code}, ${tab} at ${width} by ${height}`
+            );
         }
     }
     await browser.size(1500, 1250);
@@ -195,7 +255,12 @@ async function noBarOfNotices(browser, address) {
     await browser.open(`${address}?lang=en&door=work`);
     await browser.value("laboratoryOfPage().tell({ kind: 'printedMuch', count: 20000 })");
     await browser.value("void Object.assign(document.querySelector('#notice').style, { maxHeight: 'none', height: '600px' })");
-    assert.deepEqual(await browser.value("[document.querySelector('#notice').getBoundingClientRect().height, document.documentElement.scrollHeight <= innerHeight]"), [600, true]);
+    assert.deepEqual(
+        await browser.value(
+            "[document.querySelector('#notice').getBoundingClientRect().height, document.documentElement.scrollHeight <= innerHeight]"
+        ),
+        [600, true]
+    );
 }
 
 /** Nothing moves: not when a run begins, nor when something is printed, nor when a notice comes. */
@@ -224,12 +289,17 @@ async function nothingMoves(browser, address) {
     await browser.size(1500, 1250);
 }
 
-/** After each run the last orders are told, with their bars, and nothing of how they were told is in the transcript; a press on one goes back to before it. */
+/**
+ * After each run the last orders are told, with their bars, and nothing of how they were told is in the transcript; a press on one goes
+ * back to before it.
+ */
 async function lastOrders(browser, address) {
     await browser.open(`${address}?lang=en&door=work#self-modifying`);
     await browser.value("laboratoryOfPage().say('break 0013')");
     await press(browser, "#go-on");
-    const rows = () => browser.value("[...document.querySelectorAll('.accounts tbody tr:not(.below)')].map((it) => it.cells[1].textContent + ' ' + it.cells[2].textContent)");
+    const rows = () => browser.value(
+        "[...document.querySelectorAll('.accounts tbody tr:not(.below)')].map((it) => it.cells[1].textContent + ' ' + it.cells[2].textContent)"
+    );
     const first = await rows();
     assert.equal(first[0], "0012 a 0022");
     assert.ok(first.length >= 9, String(first.length));
@@ -249,13 +319,18 @@ async function lastOrders(browser, address) {
     assert.equal(await browser.value("String(laboratoryOfPage().panel.clock)"), clock);
 }
 
-/** The map tells of each word, by mouse and by keys: what it is, what orders did with it, who put it there, what it costs; and a stop when it changes can be set. */
+/**
+ * The map tells of each word, by mouse and by keys: what it is, what orders did with it, who put it there, what it costs; and a stop when
+ * it changes can be set.
+ */
 async function drumMap(browser, address) {
     await browser.open(`${address}?lang=en&door=work#self-modifying`);
     await press(browser, "#go-on");
     await press(browser, "#tab-memory-map");
     const told = () => textOf(browser, ".map-told");
-    await browser.waitFor("document.querySelector('.drum-map').getContext('2d').getImageData(30, 20, 200, 10).data.some((part, place) => place % 4 === 0 && part > 100)");
+    await browser.waitFor(
+        "document.querySelector('.drum-map').getContext('2d').getImageData(30, 20, 200, 10).data.some((part, place) => place % 4 === 0 && part > 100)"
+    );
     await browser.value("document.querySelector('.map').focus()");
     await press(browser, "[data-name='mapNumbers']");
     await browser.value("document.querySelector('.map').focus()");
@@ -266,7 +341,9 @@ async function drumMap(browser, address) {
     await press(browser, "[data-name='map-watch']");
     assert.deepEqual(await browser.value("laboratoryOfPage().rules"), ["watch 0009"]);
     // the word in column 24 of the first track, whose numbers take 22 pixels at the left and 14 above
-    await browser.value("(() => { const it = document.querySelector('.drum-map'); const cell = Math.floor((it.clientWidth - 22) / 64); it.dispatchEvent(Object.defineProperties(new MouseEvent('click', { bubbles: true }), { offsetX: { value: 22 + 24.5 * cell }, offsetY: { value: 18 } })); })()");
+    await browser.value(
+        "(() => { const it = document.querySelector('.drum-map'); const cell = Math.floor((it.clientWidth - 22) / 64); it.dispatchEvent(Object.defineProperties(new MouseEvent('click', { bubbles: true }), { offsetX: { value: 22 + 24.5 * cell }, offsetY: { value: 18 } })); })()"
+    );
     assert.match(await told(), /^0024 /);
     await press(browser, "[data-name='map-costs']");
     assert.match(await textOf(browser, ".costs-told"), /^0024 is in sector 24/);
@@ -277,14 +354,23 @@ async function drumMap(browser, address) {
     await press(browser, "#tab-memory-program");
 }
 
-/** The row below the time line: Back, Go on or Stop, Step, and the paces as one group, by keys too. What was gone back over stays ahead until something else is done, and what was not told is counted. */
+/**
+ * The row below the time line: Back, Go on or Stop, Step, and the paces as one group, by keys too. What was gone back over stays ahead
+ * until something else is done, and what was not told is counted.
+ */
 async function paceRow(browser, address) {
     await browser.open(`${address}?lang=en&door=work#self-modifying`);
     const row = () => browser.value("[...document.querySelectorAll('.drives .drive')].map((it) => it.querySelector('.word').textContent)");
     assert.deepEqual(await row(), ["Back", "Go on", "Step"]);
-    assert.deepEqual(await browser.value("[...document.querySelectorAll('[role=radiogroup] input')].map((it) => [it.value, it.checked])"), [["order", false], ["slow", false], ["own", false], ["fast", true]]);
+    assert.deepEqual(
+        await browser.value("[...document.querySelectorAll('[role=radiogroup] input')].map((it) => [it.value, it.checked])"),
+        [["order", false], ["slow", false], ["own", false], ["fast", true]]
+    );
     await press(browser, "#go-on");
-    assert.deepEqual(await browser.value("[document.querySelector('.timeline').dataset.untold, document.querySelector('.when output').textContent]"), ["30", "order 42 of 42"]);
+    assert.deepEqual(
+        await browser.value("[document.querySelector('.timeline').dataset.untold, document.querySelector('.when output').textContent]"),
+        ["30", "order 42 of 42"]
+    );
     for (let order = 0; order < 3; order += 1) await press(browser, "#back");
     assert.equal(await textOf(browser, ".when output"), "order 39 of 42");
     await press(browser, "#step");
@@ -294,14 +380,19 @@ async function paceRow(browser, address) {
     if (await browser.value("document.hasFocus()")) {
         await browser.strike("ArrowRight");
         await settled(browser);
-        assert.deepEqual(await browser.value("[document.activeElement.getAttribute('aria-valuetext'), laboratoryOfPage().history.behind]"), ["order 41 of 42", 41]);
+        assert.deepEqual(
+            await browser.value("[document.activeElement.getAttribute('aria-valuetext'), laboratoryOfPage().history.behind]"),
+            ["order 41 of 42", 41]
+        );
         await browser.strike("ArrowLeft");
         await settled(browser);
     }
     await browser.value("document.querySelector('#pace-fast').focus()");
     await browser.strike("ArrowLeft");
     await browser.strike("ArrowLeft");
-    if (await browser.value("document.hasFocus()")) assert.equal(await browser.value("document.querySelector('.paces :checked').value"), "slow");
+    if (await browser.value("document.hasFocus()")) {
+        assert.equal(await browser.value("document.querySelector('.paces :checked').value"), "slow");
+    }
     for (let order = 0; order < 30; order += 1) await press(browser, "#back");
     await browser.go("slow");
     assert.deepEqual(await row(), ["Back", "Stop", "Step"]);
@@ -310,17 +401,27 @@ async function paceRow(browser, address) {
     await browser.waitFor("document.querySelector('#go-on').dataset.on === 'false'");
     await settled(browser);
     assert.deepEqual([await row(), (await textOf(browser, ".when output")).endsWith("of 42")], [["Back", "Go on", "Step"], true]);
-    await browser.value("(() => { const it = document.getElementById('language'); it.value = 'de'; it.dispatchEvent(new Event('change')); })()");
-    assert.deepEqual([await row(), await browser.value("document.querySelector('.paces :checked').value")], [["Zurück", "Weiter", "Schritt"], "slow"]);
+    await browser.value(
+        "(() => { const it = document.getElementById('language'); it.value = 'de'; it.dispatchEvent(new Event('change')); })()"
+    );
+    assert.deepEqual(
+        [await row(), await browser.value("document.querySelector('.paces :checked').value")], [["Zurück", "Weiter", "Schritt"], "slow"]
+    );
     await browser.press("#pace-fast");
 }
 
-/** While an order that reads the tape is played, the tape moves forward, never back, and stands where the machine has it at its end; in a fast run it has moved at once. How long a code takes, the player's
- * test says: a slow browser shows some of them only. */
+/**
+ * While an order that reads the tape is played, the tape moves forward, never back, and stands where the machine has it at its end; in a
+ * fast run it has moved at once. How long a code takes, the player's test says: a slow browser shows some of them only.
+ */
 async function tapeMoves(browser, address) {
     await browser.open(`${address}?lang=en&door=work`);
-    await browser.value("laboratoryOfPage().say('put 0000 p 0000', 'put 0001 i 0000', 'put 0002 h 0050', 'put 0003 z', \"mount 123f'5'\", 'press start')");
-    await browser.value("(() => { globalThis.passed = []; const note = () => passed.push(document.querySelectorAll('.tape-strip .past').length); note(); new MutationObserver(note).observe(document.querySelector('.tape-place'), { childList: true }); })()");
+    await browser.value(
+        "laboratoryOfPage().say('put 0000 p 0000', 'put 0001 i 0000', 'put 0002 h 0050', 'put 0003 z', \"mount 123f'5'\", 'press start')"
+    );
+    await browser.value(
+        "(() => { globalThis.passed = []; const note = () => passed.push(document.querySelectorAll('.tape-strip .past').length); note(); new MutationObserver(note).observe(document.querySelector('.tape-place'), { childList: true }); })()"
+    );
     await press(browser, "#step");
     await browser.waitFor("laboratoryOfPage().panel.readerOn");
     await press(browser, "#step");
@@ -335,7 +436,10 @@ async function tapeMoves(browser, address) {
     assert.deepEqual(await browser.value("[passed.filter((count) => ![0, 5].includes(count)), passed.at(-1)]"), [[], 5]);
 }
 
-/** Beside the time line stands how many faults the source has that is written, and, from loading up to the first order, what was loaded; a refusal comes before both. */
+/**
+ * Beside the time line stands how many faults the source has that is written, and, from loading up to the first order, what was loaded; a
+ * refusal comes before both.
+ */
 async function sourceToldFirst(browser, address) {
     await browser.open(`${address}?lang=en&door=work`);
     assert.equal(await browser.value("document.querySelector('.source .go-to-fault').checkVisibility()"), false);
@@ -345,7 +449,10 @@ async function sourceToldFirst(browser, address) {
     await browser.write(" q\n q\n end 0000");
     await says(/^2 faults: correct them, then run\.$/);
     await press(browser, "#step");
-    assert.deepEqual(await browser.value("[document.querySelector('#notice').checkVisibility(), document.querySelector('.way').checkVisibility()]"), [true, false]);
+    assert.deepEqual(
+        await browser.value("[document.querySelector('#notice').checkVisibility(), document.querySelector('.way').checkVisibility()]"),
+        [true, false]
+    );
     await browser.write(" h 0002\n z\n end 0000");
     await says(/^The machine is stopped\. Press Start to run it\.$/);
     await press(browser, "#load");
@@ -355,11 +462,17 @@ async function sourceToldFirst(browser, address) {
     await says(/^The machine is going: Step performs its next order/);
     await browser.write(" q\n z\n end 0000");
     await says(/^One fault: correct it, then run\. The machine holds what was loaded last\.$/);
-    await browser.value("(() => { const it = document.getElementById('language'); it.value = 'de'; it.dispatchEvent(new Event('change')); })()");
+    await browser.value(
+        "(() => { const it = document.getElementById('language'); it.value = 'de'; it.dispatchEvent(new Event('change')); })()"
+    );
     await says(/^Ein Fehler im Quelltext: erst beheben, dann starten\. In der Maschine ist, was zuletzt geladen wurde\.$/);
 }
 
-const VISITS = { oneWindow, seenWhole, runToldWhole, smallTelephone, nothingMoves, lastOrders, drumMap, paceRow, tapeMoves, sourceToldFirst };
+const VISITS = {
+    oneWindow, seenWhole, runToldWhole, smallTelephone, nothingMoves, lastOrders, drumMap, paceRow, tapeMoves, sourceToldFirst,
+};
 
 /** The visits of the workbench of the page at an address, by their names. */
-export const visitsOfWorkbench = (address) => Object.fromEntries(Object.entries(VISITS).map(([name, visit]) => [name, (browser) => visit(browser, address)]));
+export const visitsOfWorkbench = (address) => (
+    Object.fromEntries(Object.entries(VISITS).map(([name, visit]) => [name, (browser) => visit(browser, address)]))
+);

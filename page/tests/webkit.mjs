@@ -30,7 +30,15 @@ export class WebKit extends Driver {
         const display = await browser.#showScreen();
         const port = await freePort();
         // in a group of its own, with the browser that it starts
-        browser.#driver = spawn("WebKitWebDriver", [`--port=${port}`], { stdio: "ignore", detached: true, env: { ...process.env, DISPLAY: `:${display}`, GDK_BACKEND: "x11", LANGUAGE: "en", ...variables } });
+        browser.#driver = spawn(
+            "WebKitWebDriver",
+            [`--port=${port}`],
+            {
+                stdio: "ignore",
+                detached: true,
+                env: { ...process.env, DISPLAY: `:${display}`, GDK_BACKEND: "x11", LANGUAGE: "en", ...variables },
+            }
+        );
         // a full screen has no bars, by which a window would be wider than a telephone
         const options = { "webkitgtk:browserOptions": { binary: BROWSER, args: ["--automation", "--full-screen"] } };
         browser.#address = `http://127.0.0.1:${port}/session`;
@@ -42,7 +50,9 @@ export class WebKit extends Driver {
     }
 
     #showScreen() {
-        this.#screen = spawn("Xvfb", ["-displayfd", "1", "-screen", "0", "1800x1500x24", "-nolisten", "tcp"], { stdio: ["ignore", "pipe", "ignore"] });
+        this.#screen = spawn(
+            "Xvfb", ["-displayfd", "1", "-screen", "0", "1800x1500x24", "-nolisten", "tcp"], { stdio: ["ignore", "pipe", "ignore"] }
+        );
         return new Promise((resolve, reject) => {
             this.#screen.stdout.setEncoding("utf8").once("data", (text) => resolve(text.trim()));
             this.#screen.once("exit", () => reject(new Error("Xvfb has ended")));

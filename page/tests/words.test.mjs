@@ -22,7 +22,9 @@ test("each language fills the same places", () => {
 /** All texts of a table, those within tables too. */
 const texts = (table) => Object.values(table).flatMap((text) => (typeof text === "object" ? texts(text) : [String(text)]));
 /** The numbers with a point or comma; a source has its fractions as the machine reads them. */
-const numbers = (table) => texts(table).filter((text) => !text.includes("-0.25")).flatMap((text) => [...text.matchAll(/\b\d+[.,\u202f]\d+\b/g)].map(String)).sort();
+const numbers = (table) => (
+    texts(table).filter((text) => !text.includes("-0.25")).flatMap((text) => [...text.matchAll(/\b\d+[.,\u202f]\d+\b/g)].map(String)).sort()
+);
 const german = (number) => number.replace(/[.,]/g, (sign) => (sign === "." ? "," : "\u202f"));
 
 test("German texts have the numbers of the English ones, with a comma for decimals and a narrow blank for thousands", () => {
@@ -34,12 +36,16 @@ test("German texts have the numbers of the English ones, with a comma for decima
 
 test("places are filled, and an unknown language is English", () => {
     assert.equal(textsIn("de").text("faultAt", { line: 3 }), "Zeile 3: ");
-    for (const code of ["xx", "constructor", "toString", "__proto__"]) assert.deepEqual([textsIn(code).text("faultAt", { line: 3 }), textsIn(code).code], ["Line 3: ", "en"]);
+    for (const code of ["xx", "constructor", "toString", "__proto__"]) {
+        assert.deepEqual([textsIn(code).text("faultAt", { line: 3 }), textsIn(code).code], ["Line 3: ", "en"]);
+    }
 });
 
 test("thousands are set apart by one sign in each language, in German by a narrow blank, beside a comma before decimals", () => {
     assert.deepEqual([counted(1168188, "en"), counted(999, "en"), decimal(18253.46, 1, "en")], ["1,168,188", "999", "18,253.5"]);
-    assert.deepEqual([counted(1168188, "de"), counted(-1000, "de"), decimal(18253.46, 1, "de")], ["1\u202f168\u202f188", "-1\u202f000", "18\u202f253,5"]);
+    assert.deepEqual(
+        [counted(1168188, "de"), counted(-1000, "de"), decimal(18253.46, 1, "de")], ["1\u202f168\u202f188", "-1\u202f000", "18\u202f253,5"]
+    );
     assert.deepEqual(["en", "de"].map((code) => inSigns(-0.0625, code, { maximumFractionDigits: 9 })), ["-0.0625", "-0,0625"]);
 });
 

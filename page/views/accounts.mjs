@@ -14,7 +14,10 @@ const SHOWN = 14;
 /** How a place is named: by its label, where it has one. */
 const named = ({ address, label }) => label ?? address;
 
-/** What an order has done, in a few words: what it has stored, before and after, or where it goes on, or what the accumulator holds, as what that is. */
+/**
+ * What an order has done, in a few words: what it has stored, before and after, or where it goes on, or what the accumulator holds, as what
+ * that is.
+ */
 function didOf(account, held, kinds, texts) {
     const { text } = texts;
     const { kind, values: { m } } = saysOf(account);
@@ -36,8 +39,16 @@ const DID = { tBelow: "didGoBelow", tSwitch: "didGoSwitch", tNot: "didNotGo", u:
 /** What an order did with all that is known of it: its digits, and which order put it there. That a hand did, is not said of each order. */
 function effectOf({ origin, stored, printed, passed, notes, before, after }, did, { text }) {
     const parts = [...notes, did];
-    if (origin !== null && origin.order !== null) parts.push(text("putThere", { order: origin.order, at: origin.at ?? "–", clock: origin.clock, lost: origin.lost }));
-    if (stored !== null) parts.push(text("storedAt", { address: [stored.address, stored.label].filter(Boolean).join(" "), before: stored.before.digits, after: stored.after.digits }));
+    if (origin !== null && origin.order !== null) {
+        parts.push(text("putThere", { order: origin.order, at: origin.at ?? "–", clock: origin.clock, lost: origin.lost }));
+    }
+    if (stored !== null) {
+        parts.push(
+            text("storedAt", {
+                address: [stored.address, stored.label].filter(Boolean).join(" "), before: stored.before.digits, after: stored.after.digits,
+            })
+        );
+    }
     if (printed !== null && passed > 0) parts.push(text("passed", { count: passed }));
     if (before !== after) parts.push(text("storedAt", { address: "A", before, after }));
     return parts.join("; ");
@@ -46,7 +57,10 @@ function effectOf({ origin, stored, printed, passed, notes, before, after }, did
 /** The bar of an account is as wide as its word times against a number of them, or against the longest one. */
 const BAR = 130;
 
-/** The rows of an account: its numbers, its bar and what it did in a few words, and below them all of that. A press on its place goes back to before it, and one on its bar says why it has waited. */
+/**
+ * The rows of an account: its numbers, its bar and what it did in a few words, and below them all of that. A press on its place goes back
+ * to before it, and one on its bar says why it has waited.
+ */
 function rowsOf(account, held, kinds, texts, goBackTo, why) {
     const { text } = texts;
     const changes = account.before === account.after ? account.after : `${account.before} → ${account.after}`;
@@ -59,20 +73,55 @@ function rowsOf(account, held, kinds, texts, goBackTo, why) {
     const bar = makeBar(account);
     bar.show(Infinity);
     const place = [account.at, account.label].filter(Boolean).join(" ");
-    const track = h("button", { type: "button", class: "account-bar", style: `--times: ${account.sum}`, onclick: () => why(account), "aria-label": text("whyWaited", { place: place === "" ? account.order : place }), "data-name": `bar-${account.clock}` }, ...bar.nodes);
-    const row = h("tr", { class: "above" }, h("td", { class: "number clock" }, String(account.clock)), h("td", {}, button(account.at ?? "–", () => goBackTo(account), { class: "plain", title: text("goBackHere"), "data-name": `account-${account.clock}` }), h("span", { class: "at-label" }, account.label == null ? "" : ` ${account.label}`)),
-        h("td", { class: isRewritten ? "rewritten-order" : null }, h("code", {}, account.order)), ...numbers, h("td", { class: "changes" }, h("code", {}, changes)), h("td", { class: "bar-of" }, track), h("td", { class: account.stored === null ? "effect-of" : "effect-of wrote", title: effect }, did));
+    const track = h(
+        "button",
+        {
+            type: "button",
+            class: "account-bar",
+            style: `--times: ${account.sum}`,
+            onclick: () => why(account),
+            "aria-label": text("whyWaited", { place: place === "" ? account.order : place }),
+            "data-name": `bar-${account.clock}`,
+        },
+        ...bar.nodes
+    );
+    const row = h(
+        "tr",
+        { class: "above" },
+        h("td", { class: "number clock" }, String(account.clock)),
+        h(
+            "td",
+            {},
+            button(
+                account.at ?? "–",
+                () => goBackTo(account),
+                { class: "plain", title: text("goBackHere"), "data-name": `account-${account.clock}` }
+            ),
+            h("span", { class: "at-label" }, account.label == null ? "" : ` ${account.label}`)
+        ),
+        h("td", { class: isRewritten ? "rewritten-order" : null }, h("code", {}, account.order)),
+        ...numbers,
+        h("td", { class: "changes" }, h("code", {}, changes)),
+        h("td", { class: "bar-of" }, track),
+        h("td", { class: account.stored === null ? "effect-of" : "effect-of wrote", title: effect }, did)
+    );
     return { nodes: [row, below], bar };
 }
 
-/** The part of the page with the accounts; `why` says why one has waited. Of the order that is played, what it has not done yet is not seen. */
+/**
+ * The part of the page with the accounts; `why` says why one has waited. Of the order that is played, what it has not done yet is not seen.
+ */
 export function makeAccounts(laboratory, texts, { playing, held, isFast }, why) {
     const { text } = texts;
     const body = h("tbody");
     const names = ["clock", "at", "order", "find", "take", "seek", "act", "sum", "accumulator", "bar", "effect"];
     const heads = names.map((name) => h("th", { scope: "col", class: `head-${name}` }, text(name)));
     const empty = h("p");
-    const table = h("div", { class: "scroll", tabindex: "0", role: "group", "aria-label": text("accounts") }, h("table", {}, h("thead", {}, h("tr", {}, ...heads)), body));
+    const table = h(
+        "div",
+        { class: "scroll", tabindex: "0", role: "group", "aria-label": text("accounts") },
+        h("table", {}, h("thead", {}, h("tr", {}, ...heads)), body)
+    );
     const [stops, whole] = [oneStop(body, ".now"), keepWhole(table, body)];
     const rows = new WeakMap();
     const goBackTo = (account) => laboratory.back(laboratory.accounts.length - laboratory.accounts.indexOf(account));
@@ -116,17 +165,30 @@ export function makeTime(laboratory, { text, code }, showing) {
         if (at < behind) laboratory.back(behind - at);
         else if (at > behind) laboratory.forward(at - behind);
     };
-    const slider = h("input", { type: "range", min: 0, max: 0, step: 1, "aria-label": text("slider"), onchange: () => goTo(Number(slider.value)) });
+    const slider = h("input", {
+        type: "range", min: 0, max: 0, step: 1, "aria-label": text("slider"), onchange: () => goTo(Number(slider.value)),
+    });
     const [told, clock] = [h("output"), h("span", { class: "clock-turn" })];
     const show = () => {
         const { behind, ahead, forgotten } = laboratory.history;
         slider.max = String(behind + ahead);
         slider.value = String(behind);
         slider.disabled = behind + ahead === 0;
-        tell(told, text("orderCount", { at: number(behind), of: number(behind + ahead) }) + (forgotten > 0 ? ` (${text("forgotten", { count: number(forgotten) })})` : ""));
+        tell(
+            told,
+            text("orderCount", { at: number(behind), of: number(behind + ahead) })
+                + (forgotten > 0 ? ` (${text("forgotten", { count: number(forgotten) })})` : "")
+        );
         slider.setAttribute("aria-valuetext", text("orderCount", { at: number(behind), of: number(behind + ahead) }));
-        tell(clock, text("clockTurn", { clock: number(laboratory.panel.clock), turn: decimal(Number(laboratory.panel.clock) / SECTORS, 1, code) }));
+        tell(
+            clock,
+            text("clockTurn", { clock: number(laboratory.panel.clock), turn: decimal(Number(laboratory.panel.clock) / SECTORS, 1, code) })
+        );
         line.show();
     };
-    return { node: part("time", text("time"), h("div", { class: "along" }, line.node, slider)), when: h("div", { class: "when" }, told, clock), show };
+    return {
+        node: part("time", text("time"), h("div", { class: "along" }, line.node, slider)),
+        when: h("div", { class: "when" }, told, clock),
+        show,
+    };
 }

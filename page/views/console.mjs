@@ -29,13 +29,19 @@ function nameOf(label) {
 export function makeConsole(laboratory, { text, table }) {
     const buttons = BUTTONS.map((name) => {
         const [label, hint] = table.button[name];
-        const control = guarded("", { title: hint, class: "square", "data-name": name }, () => laboratory.command(`press ${name}`), tellDead(laboratory, label));
+        const control = guarded(
+            "", { title: hint, class: "square", "data-name": name }, () => laboratory.command(`press ${name}`), tellDead(laboratory, label)
+        );
         control.append(h("i", { class: "strip", "aria-hidden": "true" }), label);
         return control;
     });
     const switches = SWITCHES.map((name) => {
         const [label, hint] = table.switch[name];
-        const control = button("", () => laboratory.command(`press ${name} ${laboratory.panel.down[name] ? "up" : "down"}`), { title: hint, class: "lever", role: "switch", "data-name": name });
+        const control = button(
+            "",
+            () => laboratory.command(`press ${name} ${laboratory.panel.down[name] ? "up" : "down"}`),
+            { title: hint, class: "lever", role: "switch", "data-name": name }
+        );
         control.append(h("i", { "aria-hidden": "true" }), h("span", {}, ...nameOf(label)));
         return control;
     });
@@ -52,14 +58,25 @@ export function makeConsole(laboratory, { text, table }) {
         for (const control of [...buttons, ...switches]) control.setAttribute("aria-busy", String(awaited.has(control.dataset.name)));
     };
     const group = (name, controls) => h("div", { class: `controls ${name}`, role: "group", "aria-label": text(name) }, ...controls);
-    return { node: part("console", text("console"), group("buttons", buttons.slice(0, FIRST_ROW)), h("div", { class: "second-row" }, group("switches", switches), group("inputs", buttons.slice(FIRST_ROW)))), show };
+    return {
+        node: part(
+            "console",
+            text("console"),
+            group("buttons", buttons.slice(0, FIRST_ROW)),
+            h("div", { class: "second-row" }, group("switches", switches), group("inputs", buttons.slice(FIRST_ROW)))
+        ),
+        show,
+    };
 }
 
 /** What a key is called. */
 const nameOfKey = (sign, { text }) => ({ [SPACE]: text("space"), [STOP]: text("conditionalStop") })[sign] ?? sign;
 
 /** The keys of the Flexowriter in their rows, each made by its sign. */
-const keysOf = (make) => [...KEY_ROWS.map(([row, setIn]) => h("div", { class: "keys", style: `--set-in: ${setIn}` }, ...[...row].map(make))), h("div", { class: "keys last-row" }, make(SPACE), make(STOP))];
+const keysOf = (make) => [
+    ...KEY_ROWS.map(([row, setIn]) => h("div", { class: "keys", style: `--set-in: ${setIn}` }, ...[...row].map(make))),
+    h("div", { class: "keys last-row" }, make(SPACE), make(STOP)),
+];
 
 const kindOfKey = (sign) => ({ [SPACE]: "space", [STOP]: "stop" })[sign] ?? (OF_ORDERS.includes(sign) ? "of-order" : "");
 const signOn = (sign, stop) => ({ [SPACE]: "", [STOP]: stop })[sign] ?? sign;
@@ -67,7 +84,17 @@ const signOn = (sign, stop) => ({ [SPACE]: "", [STOP]: stop })[sign] ?? sign;
 /** The part of the page with the Flexowriter's body. One of its keys is a stop of Tab, and arrows go among them; a dead one says why. */
 export function makeKeyboard(laboratory, texts, showing) {
     const { text } = texts;
-    const key = (sign) => guarded(signOn(sign, text("condStop")), { class: `key ${kindOfKey(sign)}`, "data-key": sign, "data-name": sign === STOP ? KEYS.stop : KEYS.sign, "aria-label": nameOfKey(sign, texts) }, () => laboratory.command(`type ${sign}`), tellDead(laboratory, nameOfKey(sign, texts)));
+    const key = (sign) => guarded(
+        signOn(sign, text("condStop")),
+        {
+            class: `key ${kindOfKey(sign)}`,
+            "data-key": sign,
+            "data-name": sign === STOP ? KEYS.stop : KEYS.sign,
+            "aria-label": nameOfKey(sign, texts),
+        },
+        () => laboratory.command(`type ${sign}`),
+        tellDead(laboratory, nameOfKey(sign, texts))
+    );
     const body = makeBody(laboratory, texts, showing, keysOf(key));
     const node = part("keyboard", text("keyboard"), body.node);
     const refresh = oneStop(body.node, ".keys", "key");

@@ -1,11 +1,15 @@
-// What the last orders would have taken with one word at each sector: a sentence, the marks of the ring that the drum shows of it, and a table.
+// What the last orders would have taken with one word at each sector: a sentence, the marks of the ring that the drum shows of it, and a
+// table.
 import { counted } from "../words.mjs";
 import { h, part, tell } from "./dom.mjs";
 
 /** The sector with a mark, or null. */
 export const markedIn = ({ sectors }, mark) => sectors.find((it) => it[mark]) ?? null;
 
-/** The name of the sentence for a word: one that may be moved may lie best where it is, and an order may have been waited for as an order alone. */
+/**
+ * The name of the sentence for a word: one that may be moved may lie best where it is, and an order may have been waited for as an order
+ * alone.
+ */
 function sentenceOf({ kind, saved, sectors }) {
     if (kind === "free" && saved === 0) return "best";
     return kind === "performed" && sectors.length === 0 ? "order" : kind;
@@ -28,17 +32,31 @@ const MARKS = [["isOwn", "own", "costOwn"], ["isBest", "best", "costBest"]];
 
 function rowOf(shown, { text, code }) {
     const marks = MARKS.filter(([mark]) => shown[mark]).map(([, , name]) => text(name)).join(", ");
-    return h("tr", { class: shown.isBest ? "best" : shown.isOwn ? "own" : null }, h("th", { scope: "row" }, String(shown.sector).padStart(2, "0")), h("td", { class: "number" }, counted(shown.times, code)), h("td", {}, marks));
+    return h(
+        "tr",
+        { class: shown.isBest ? "best" : shown.isOwn ? "own" : null },
+        h("th", { scope: "row" }, String(shown.sector).padStart(2, "0")),
+        h("td", { class: "number" }, counted(shown.times, code)),
+        h("td", {}, marks)
+    );
 }
 
 /** The part of the page with what is told of a word. */
 export function makeCosts(laboratory, texts) {
     const { text } = texts;
     const told = h("p", { role: "status", class: "costs-told" });
-    const legend = h("p", { class: "key" }, ...MARKS.flatMap(([, kind, name]) => [h("span", { class: `cost-mark ${kind}`, "aria-hidden": "true" }), text(name), " "]));
+    const legend = h(
+        "p",
+        { class: "key" },
+        ...MARKS.flatMap(([, kind, name]) => [h("span", { class: `cost-mark ${kind}`, "aria-hidden": "true" }), text(name), " "])
+    );
     const body = h("tbody");
     const heads = ["sector", "wordTimes", "costMark"].map((name) => h("th", { scope: "col" }, text(name)));
-    const table = h("div", { class: "scroll", tabindex: "0", role: "group", "aria-label": text("costsTable") }, h("table", {}, h("thead", {}, h("tr", {}, ...heads)), body));
+    const table = h(
+        "div",
+        { class: "scroll", tabindex: "0", role: "group", "aria-label": text("costsTable") },
+        h("table", {}, h("thead", {}, h("tr", {}, ...heads)), body)
+    );
     const all = h("details", {}, h("summary", {}, text("costsTable")), table);
     let shown;
     const show = () => {

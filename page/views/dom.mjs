@@ -40,7 +40,8 @@ export function refill(place, ...nodes) {
 }
 
 /**
- * Makes one stop of Tab of the buttons of a list: the one that had the focus last, else the one in a row that `first` selects, else the first one. Arrows, Home and End go among them. Gives what is called when the list
+ * Makes one stop of Tab of the buttons of a list: the one that had the focus last, else the one in a row that `first` selects, else the
+ * first one. Arrows, Home and End go among them. Gives what is called when the list
  * was filled. The buttons are known by their `data-name`, or by another attribute of `data`.
  */
 export function oneStop(list, first, by = "name") {

@@ -1,4 +1,5 @@
-// The drum from its end: the head stands still, the ring of sectors turns below it. What is lit comes from replies; the look of ring, head and hub is the
+// The drum from its end: the head stands still, the ring of sectors turns below it. What is lit comes from replies; the look of ring, head
+// and hub is the
 // page's own picture of the machine.
 import { SECTORS, sectorOf } from "../addresses.mjs";
 import { positionOf } from "../machine.mjs";
@@ -20,7 +21,10 @@ const CELL = 29.5;
 const SMALL = 1.6;
 /** The part of 800 pixels below which the pins keep their size, as the style sheet has it. */
 const pinOf = (box) => Number(getComputedStyle(box).getPropertyValue("--pin"));
-/** The trail: where it begins, how much further in it is after each turn, how many turns are seen of it, how wide waits and works are, and how faint it is at its end. */
+/**
+ * The trail: where it begins, how much further in it is after each turn, how many turns are seen of it, how wide waits and works are, and
+ * how faint it is at its end.
+ */
 export const PEN = { radius: 246, pitch: 20, turns: 4.6, waits: 4.5, works: 15, faintest: 0.12 };
 
 /** The point at an angle, clockwise from above, and a distance from the centre. */
@@ -39,9 +43,19 @@ function cell(sector) {
     const from = startOf(sector);
     const [outline, middle] = [[from, from + STEP], from + STEP / 2];
     const [x, y] = at(middle, RING.numbers);
-    const path = `M ${fixed(at(outline[0], RING.outer))} ${arc(outline[1], RING.outer)} L ${fixed(at(outline[1], RING.inner))} ${arc(outline[0], RING.inner, 0)} Z`;
-    return s("g", { class: `cell ${positionOf(sector) % 2 === 0 ? "even" : "odd"}` }, s("path", { class: "face", d: path }), s("path", { class: "bits" }),
-        s("text", { x: x.toFixed(1), y: (y + 6.6).toFixed(1), transform: `rotate(${fixed([middle, x, y])})` }, String(sector).padStart(2, "0")));
+    const path =
+        `M ${fixed(at(outline[0], RING.outer))} ${arc(outline[1], RING.outer)} L ${fixed(at(outline[1], RING.inner))} ${arc(outline[0], RING.inner, 0)} Z`;
+    return s(
+        "g",
+        { class: `cell ${positionOf(sector) % 2 === 0 ? "even" : "odd"}` },
+        s("path", { class: "face", d: path }),
+        s("path", { class: "bits" }),
+        s(
+            "text",
+            { x: x.toFixed(1), y: (y + 6.6).toFixed(1), transform: `rotate(${fixed([middle, x, y])})` },
+            String(sector).padStart(2, "0")
+        )
+    );
 }
 
 /** A stroke for each bit of a word that is 1. */
@@ -56,7 +70,10 @@ function costBar({ sector, times, isOwn, isBest }, least, most) {
     const share = 0.025 + (0.975 * (times - least)) / Math.max(1, most - least);
     const [from, to, radius] = [startOf(sector) + 0.5, startOf(sector) + STEP - 0.5, COSTS.from + (COSTS.to - COSTS.from) * share];
     const [x, y] = at((from + to) / 2, COSTS.mark);
-    const bar = s("path", { class: `cost ${isBest ? "best" : isOwn ? "own" : ""}`, d: `M ${fixed(at(from, radius))} ${arc(to, radius)} L ${fixed(at(to, COSTS.from))} ${arc(from, COSTS.from, 0)} Z` });
+    const bar = s("path", {
+        class: `cost ${isBest ? "best" : isOwn ? "own" : ""}`,
+        d: `M ${fixed(at(from, radius))} ${arc(to, radius)} L ${fixed(at(to, COSTS.from))} ${arc(from, COSTS.from, 0)} Z`,
+    });
     const own = isOwn ? s("circle", { class: "cost-mark own", cx: x, cy: y, r: 6 }) : null;
     const best = isBest ? s("path", { class: "cost-mark best", d: "M0 -9L9 0L0 9L-9 0Z", transform: `translate(${fixed([x, y])})` }) : null;
     return s("g", {}, bar, own, best);
@@ -65,20 +82,36 @@ function costBar({ sector, times, isOwn, isBest }, least, most) {
 /** A mark around the hub of a sector that was tried for a word: the longer, the more it costs there. */
 function triedMark({ sector, share, isBest }) {
     const [from, to, radius] = [startOf(sector) + 0.8, startOf(sector) + STEP - 0.8, 123 + 21 * share];
-    return s("path", { class: `tried ${isBest ? "best" : ""}`, d: `M ${fixed(at(from, radius))} ${arc(to, radius)} L ${fixed(at(to, 121))} ${arc(from, 121, 0)} Z` });
+    return s("path", {
+        class: `tried ${isBest ? "best" : ""}`,
+        d: `M ${fixed(at(from, radius))} ${arc(to, radius)} L ${fixed(at(to, 121))} ${arc(from, 121, 0)} Z`,
+    });
 }
 
-/** The ring of sectors. `mark` lights those of the order under way, of its word, and of the order that comes next, `light` any by the name of a class, `write` draws the words' bits, `cost` draws what the sectors would cost a
- * word, `trace` which of them were tried, and `turn` turns it. */
+/**
+ * The ring of sectors. `mark` lights those of the order under way, of its word, and of the order that comes next, `light` any by the name
+ * of a class, `write` draws the words' bits, `cost` draws what the sectors would cost a word, `trace` which of them were tried, and `turn`
+ * turns it.
+ */
 function makeRing() {
     const cells = Array.from({ length: SECTORS }, (unused, sector) => cell(sector));
     const box = [X - RING.rim, Y - RING.rim, 2 * RING.rim, 2 * RING.rim].join(" ");
-    const bolts = Array.from({ length: 8 }, (unused, place) => at(45 * place + 22.5, 133)).map(([cx, cy]) => s("circle", { class: "bolt", cx, cy, r: 6.5 }));
-    const plates = () => [s("circle", { class: "face-plate", cx: X, cy: Y, r: RING.inner }), s("circle", { class: "hub-plate", cx: X, cy: Y, r: 146 })];
+    const bolts = Array.from({ length: 8 }, (unused, place) => at(45 * place + 22.5, 133)).map(
+        ([cx, cy]) => s("circle", { class: "bolt", cx, cy, r: 6.5 })
+    );
+    const plates = () => (
+        [s("circle", { class: "face-plate", cx: X, cy: Y, r: RING.inner }), s("circle", { class: "hub-plate", cx: X, cy: Y, r: 146 })]
+    );
     const [costs, tries] = ["ring-of-costs", "tries"].map((name) => s("g", { class: name }));
     const svg = s("svg", { class: "ring", viewBox: box, "aria-hidden": "true" }, ...cells, ...plates(), ...bolts, costs, tries);
     // what an eye sees of it where nothing on it can be read: it lies above, so that the ring need not be drawn anew when it comes and goes
-    const blur = s("svg", { class: "blur", viewBox: box, "aria-hidden": "true" }, s("circle", { class: "rim", cx: X, cy: Y, r: RING.rim }), ...[RING.numbers, 272].map((r) => s("circle", { class: "streak", cx: X, cy: Y, r })), ...plates());
+    const blur = s(
+        "svg",
+        { class: "blur", viewBox: box, "aria-hidden": "true" },
+        s("circle", { class: "rim", cx: X, cy: Y, r: RING.rim }),
+        ...[RING.numbers, 272].map((r) => s("circle", { class: "streak", cx: X, cy: Y, r })),
+        ...plates()
+    );
     const [drawn, marked] = [new Map(), { next: null, operand: null, written: null, now: null }];
     const mark = (marks) => {
         for (const kind of Object.keys(marked)) {
@@ -104,12 +137,22 @@ function makeRing() {
         costs.replaceChildren(...sectors.map((it) => costBar(it, Math.min(...times), Math.max(...times))));
     };
     const trace = (tried) => tries.replaceChildren(...tried.map(triedMark));
-    return { node: h("div", { class: "well" }, svg, blur), mark, light, write, cost, trace, turn: (position) => { svg.style.transform = `rotate(${-position * STEP}deg)`; } };
+    return {
+        node: h("div", { class: "well" }, svg, blur),
+        mark,
+        light,
+        write,
+        cost,
+        trace,
+        turn: (position) => { svg.style.transform = `rotate(${-position * STEP}deg)`; },
+    };
 }
 
 /** The sizes of pins, and how far from the centre they lie at an angle. */
 const FLAGS = { now: { width: 96, height: 30 }, next: { width: 66, height: 25 }, operand: { width: 64, height: 28 } };
-const flagDistance = (angle, { width, height }) => 314 + height / 2 + (height / 2) * Math.abs(Math.cos(inRadians(angle))) + (width / 2) * Math.abs(Math.sin(inRadians(angle)));
+const flagDistance = (angle, { width, height }) => (
+    314 + height / 2 + (height / 2) * Math.abs(Math.cos(inRadians(angle))) + (width / 2) * Math.abs(Math.sin(inRadians(angle)))
+);
 
 /** The pin of an address; where it lies aside of its sector a line leads there. */
 function makePin(kind) {
@@ -134,25 +177,47 @@ const HUB_TEXTS = { order: -80, phase: -52, count: 18, below: 52, clock: 84 };
 /** What stands still: the head with its tip, the way still to go, the hub with its text, and the pins. */
 function makeFixed({ text, code }) {
     const pins = Object.fromEntries(["operand", "next", "now"].map((kind) => [kind, makePin(kind)]));
-    const [tip, beam] = [s("path", { class: "tip", d: "M390 55h20l-10 9z" }), s("path", { class: "beam", d: `M393.5 64L${fixed(at(-1.3, RING.inner))}L${fixed(at(1.3, RING.inner))}L406.5 64z` })];
+    const [tip, beam] = [
+        s("path", { class: "tip", d: "M390 55h20l-10 9z" }),
+        s("path", { class: "beam", d: `M393.5 64L${fixed(at(-1.3, RING.inner))}L${fixed(at(1.3, RING.inner))}L406.5 64z` }),
+    ];
     const way = s("path", { class: "way-to-go" });
-    const texts = Object.fromEntries(Object.entries(HUB_TEXTS).map(([name, y]) => [name, s("text", { class: `hub-${name}`, x: X, y: Y + y })]));
+    const texts = Object.fromEntries(
+        Object.entries(HUB_TEXTS).map(([name, y]) => [name, s("text", { class: `hub-${name}`, x: X, y: Y + y })])
+    );
     const svg = s("svg", { class: "fixed", viewBox: "0 0 800 720", "aria-hidden": "true" },
         s("circle", { class: "casing", cx: X, cy: Y, r: WAY }), way,
-        s("path", { class: "turns-left", d: `M ${fixed(at(-20, 350))} ${arc(-40, 350, 0)}` }), s("path", { class: "turns-left tip-of", d: `M ${fixed(at(-43.2, 350))} L ${fixed(at(-38.8, 343))} L ${fixed(at(-38.8, 357))} Z` }),
-        beam, s("path", { class: "head face", d: "M346 0h108v28l-24 20h-20l-10 7-10-7h-20l-24-20z" }), tip, s("text", { class: "head-name", x: 400, y: 24 }, text("head")),
+        s("path", { class: "turns-left", d: `M ${fixed(at(-20, 350))} ${arc(-40, 350, 0)}` }),
+        s("path", { class: "turns-left tip-of", d: `M ${fixed(at(-43.2, 350))} L ${fixed(at(-38.8, 343))} L ${fixed(at(-38.8, 357))} Z` }),
+        beam,
+        s("path", { class: "head face", d: "M346 0h108v28l-24 20h-20l-10 7-10-7h-20l-24-20z" }),
+        tip,
+        s("text", { class: "head-name", x: 400, y: 24 }, text("head")),
         s("circle", { class: "hub", cx: X, cy: Y, r: 119 }), ...Object.values(texts), ...Object.values(pins).map(({ node }) => node));
     let size = 1;
     /** On a small drum the pin of the order under way has no room for its letter. */
     const flagOf = (kind) => (kind === "now" && size > SMALL ? FLAGS.next : FLAGS[kind]);
     const showPins = (view, position) => {
         const there = Object.keys(pins).filter((kind) => (view[kind] ?? null) !== null && !(kind === "next" && view.next === view.now));
-        const set = there.map((kind) => ({ name: kind, angle: angleOf(sectorOf(view[kind]), position), width: flagOf(kind).width * size, height: flagOf(kind).height * size }));
+        const set = there.map((kind) => (
+            {
+                name: kind,
+                angle: angleOf(sectorOf(view[kind]), position),
+                width: flagOf(kind).width * size,
+                height: flagOf(kind).height * size,
+            }
+        ));
         const angles = apart(set, flagDistance);
         for (const { node, hide } of Object.values(pins)) if (!there.includes(node.dataset.kind)) hide();
         for (const { name: kind, angle: own } of set) {
             const address = view[kind];
-            pins[kind].show({ address, name: kind === "now" && size <= SMALL ? `${address} ${view.letter}` : address, own, angle: angles.get(kind), flag: flagOf(kind) });
+            pins[kind].show({
+                address,
+                name: kind === "now" && size <= SMALL ? `${address} ${view.letter}` : address,
+                own,
+                angle: angles.get(kind),
+                flag: flagOf(kind),
+            });
         }
         pins.operand.node.classList.toggle("written", view.isWritten === true);
     };
@@ -161,7 +226,13 @@ function makeFixed({ text, code }) {
         svg.dataset.phase = view.phase ?? "rest";
         beam.classList.toggle("lit", view.isReading);
         way.setAttribute("d", view.left > 0 ? sweep(Math.min(view.left, SECTORS)) : "");
-        const said = { order: view.order ?? "", phase: text(`hub_${view.phase ?? "rest"}`), count: view.count, below: view.below ?? (view.left > 0 ? text("placesToGo") : ""), clock: view.clock === null ? "" : `${text("clock")} ${decimal(view.clock, 0, code)}` };
+        const said = {
+            order: view.order ?? "",
+            phase: text(`hub_${view.phase ?? "rest"}`),
+            count: view.count,
+            below: view.below ?? (view.left > 0 ? text("placesToGo") : ""),
+            clock: view.clock === null ? "" : `${text("clock")} ${decimal(view.clock, 0, code)}`,
+        };
         for (const [name, value] of Object.entries(said)) tell(texts[name], value);
     };
     return { node: svg, show, resize: (factor) => { size = factor; } };
@@ -225,10 +296,20 @@ function stroke(pen, { from, to, width }, colour, { radius, pitch, turns, fainte
     }
 }
 
-/** What the drum shows between orders: the one that was the last, as done, or, where orders pass too fast to be read, what comes next alone. */
+/**
+ * What the drum shows between orders: the one that was the last, as done, or, where orders pass too fast to be read, what comes next alone.
+ */
 function atRest({ panel }, mark, isFast) {
     const place = isFast ? { phase: "turns", now: null, order: null, operand: null, next: panel.counter } : { ...mark, next: mark.coming };
-    return { clock: panel.clock, offset: 0, left: 0, count: isFast ? "↻" : letterIn(place.order) ?? "–", isReading: false, written: null, ...place };
+    return {
+        clock: panel.clock,
+        offset: 0,
+        left: 0,
+        count: isFast ? "↻" : letterIn(place.order) ?? "–",
+        isReading: false,
+        written: null,
+        ...place,
+    };
 }
 
 /** The letter of an order as it is written, without a sign that it may have; null where there is none. */
@@ -237,14 +318,28 @@ const letterIn = (order) => order?.trim().replace(/^-/, "")[0] ?? null;
 /** What it shows while an order is played. */
 function whilePlayed({ account, offset, left }, mark) {
     const sign = account.printed === null ? letterIn(account.order) : account.printed.sign ?? "·";
-    return { clock: account.clock, offset, left, count: left > 0 ? String(Math.ceil(left)) : sign, isReading: left > 0 && left <= 1, written: null, ...mark, next: mark.coming };
+    return {
+        clock: account.clock,
+        offset,
+        left,
+        count: left > 0 ? String(Math.ceil(left)) : sign,
+        isReading: left > 0 && left <= 1,
+        written: null,
+        ...mark,
+        next: mark.coming,
+    };
 }
 
-/** Rings in place of the trail, where it passes too fast to be read: one for each of the last turns, as strong as the share of a phase in it. */
+/**
+ * Rings in place of the trail, where it passes too fast to be read: one for each of the last turns, as strong as the share of a phase in
+ * it.
+ */
 function drawShares(pen, pieces, colours) {
     for (let turn = 0; turn < 4; turn += 1) {
         for (const [place, phase] of ["find", "seek"].entries()) {
-            const times = pieces.filter((piece) => piece.phase === phase).map(({ from, to }) => Math.min(from, SECTORS * (turn + 1)) - Math.max(to, SECTORS * turn));
+            const times = pieces.filter((piece) => piece.phase === phase).map(({ from, to }) => (
+                Math.min(from, SECTORS * (turn + 1)) - Math.max(to, SECTORS * turn)
+            ));
             const share = times.filter((time) => time > 0).reduce((sum, time) => sum + time, 0) / SECTORS;
             Object.assign(pen, { globalAlpha: Math.min(1, share), strokeStyle: colours[phase], lineWidth: 6 });
             pen.beginPath();
@@ -268,18 +363,30 @@ export function makePicture(texts, redraw) {
 }
 
 /** The colours of the phases, each with its name. */
-export const makeKey = (nameOf, ...more) => h("p", { class: "key" }, ...PHASES.flatMap((phase) => [h("span", { class: `dot ${phase}` }), nameOf(phase), " "]), ...more);
+export const makeKey = (nameOf, ...more) => (
+    h("p", { class: "key" }, ...PHASES.flatMap((phase) => [h("span", { class: `dot ${phase}` }), nameOf(phase), " "]), ...more)
+);
 
-/** The part of the page that shows the drum. `playing` gives what is played at this moment, or null, `held` the order that has not yet done what it does, `markNow` the order under way; `isFast` tells whether it turns too fast to be read. */
+/**
+ * The part of the page that shows the drum. `playing` gives what is played at this moment, or null, `held` the order that has not yet done
+ * what it does, `markNow` the order under way; `isFast` tells whether it turns too fast to be read.
+ */
 export function makeDrum(laboratory, texts, { playing, held, isFast, markNow }) {
     const { text } = texts;
     const { box, ring, trail, still } = makePicture(texts, () => { if (laboratory.panel !== null) frame(); });
-    const key = makeKey(text, h("span", { class: "dot next" }), text("nextOrder"), " ", h("span", { class: "dot operand" }), text("operand"));
-    /** The word that the last order has stored, for a moment after it has done so. The moment begins when what was done is shown: a picture drawn in between, or during an action, may know an order that is yet to be played. */
+    const key = makeKey(
+        text, h("span", { class: "dot next" }), text("nextOrder"), " ", h("span", { class: "dot operand" }), text("operand")
+    );
+    /**
+     * The word that the last order has stored, for a moment after it has done so. The moment begins when what was done is shown: a picture
+     * drawn in between, or during an action, may know an order that is yet to be played.
+     */
     let [told, until] = [null, 0];
     const begin = () => {
         const account = laboratory.accounts.at(-1);
-        if (!laboratory.isActing && held() === null && account !== told) [told, until] = [account, performance.now() + WRITTEN_MILLISECONDS];
+        if (!laboratory.isActing && held() === null && account !== told) {
+            [told, until] = [account, performance.now() + WRITTEN_MILLISECONDS];
+        }
     };
     const writtenNow = () => {
         const account = laboratory.accounts.at(-1);
@@ -290,8 +397,12 @@ export function makeDrum(laboratory, texts, { playing, held, isFast, markNow }) 
         const mark = markNow();
         const view = played === null ? atRest(laboratory, mark, isFast()) : whilePlayed(played, mark);
         view.letter = letterIn(view.order);
-        if (laboratory.isCounted && view.left > 0) Object.assign(view, { count: String(Math.floor(view.offset)), below: text("placesTurned") });
-        if (played?.isHurried && played.phase === "act" && !played.done) view.below = text("shownFaster", { turns: Math.round(played.account.act / SECTORS) });
+        if (laboratory.isCounted && view.left > 0) {
+            Object.assign(view, { count: String(Math.floor(view.offset)), below: text("placesTurned") });
+        }
+        if (played?.isHurried && played.phase === "act" && !played.done) {
+            view.below = text("shownFaster", { turns: Math.round(played.account.act / SECTORS) });
+        }
         view.written = isFast() ? null : writtenNow();
         const position = Number(view.clock % BigInt(SECTORS)) + view.offset;
         ring.turn(position % SECTORS);
@@ -307,12 +418,18 @@ export function makeDrum(laboratory, texts, { playing, held, isFast, markNow }) 
         begin();
         frame();
         const stored = held()?.stored;
-        ring.write(laboratory.track.map(({ address, text: digits }) => [sectorOf(address), address === stored?.address ? stored.before.digits : digits]));
+        ring.write(
+            laboratory.track.map(({ address, text: digits }) => (
+                [sectorOf(address), address === stored?.address ? stored.before.digits : digits]
+            ))
+        );
         ring.cost(laboratory.costs);
         trail.node.classList.toggle("away", laboratory.costs !== null && laboratory.costs.sectors.length > 0);
         const { panel: { clock, counter }, lastTold } = laboratory;
         const last = lastTold === null ? "" : text("drumLast", { order: lastTold.order, at: lastTold.at ?? "–" });
-        box.setAttribute("aria-label", isFast() ? text("drumRuns") : text("drumSays", { clock: decimal(clock, 0, texts.code), next: counter, last }));
+        box.setAttribute(
+            "aria-label", isFast() ? text("drumRuns") : text("drumSays", { clock: decimal(clock, 0, texts.code), next: counter, last })
+        );
     };
     return { node: part("drum", text("drum"), box, key), box, ring, show, frame };
 }

@@ -1,4 +1,5 @@
-// The editor of a source: CodeMirror, with the colours, gutters, faults and completion of this language. It knows nothing of the machine; what it shows of a source it is given.
+// The editor of a source: CodeMirror, with the colours, gutters, faults and completion of this language. It knows nothing of the machine;
+// what it shows of a source it is given.
 import "codemirror/addon/dialog/dialog.js";
 import "codemirror/addon/hint/show-hint.js";
 import "codemirror/addon/search/search.js";
@@ -6,7 +7,10 @@ import CodeMirror from "codemirror/lib/codemirror.js";
 import { askedAt, columnOf, isLabelOnly, labelsIn, namedIn, operationsWith, tokensOf } from "../language.mjs";
 import { h } from "./dom.mjs";
 
-/** How many signs go into the editor at once, so that the page can be used while a longer text is put in by pieces; and how many words are offered. */
+/**
+ * How many signs go into the editor at once, so that the page can be used while a longer text is put in by pieces; and how many words are
+ * offered.
+ */
 const [PIECE, OFFERED] = [12_000, 16];
 
 const STYLES = { label: "label", operation: "operation", operand: "operand", comment: "comment" };
@@ -51,7 +55,10 @@ function makePieces(cm, text, at, origin, ended) {
 /** The column in which a comment begins at the least that stands after something. */
 const COMMENTS = 22;
 
-/** Sets the comment of a line in, so that comments have a column of their own. A long one is one row, and can be read whole where the mouse rests on it, or where the cursor goes. */
+/**
+ * Sets the comment of a line in, so that comments have a column of their own. A long one is one row, and can be read whole where the mouse
+ * rests on it, or where the cursor goes.
+ */
 function setIn(cm, { text }, node) {
     const [shown, tokens] = [node.querySelector(".cm-comment"), tokensOf(text)];
     const comment = tokens.at(-1);
@@ -61,7 +68,10 @@ function setIn(cm, { text }, node) {
     if (missing > 0) shown.style.marginLeft = `${missing * cm.defaultCharWidth()}px`;
 }
 
-/** Moves a label that was just written after blanks to the first column, where it belongs: what follows begins where the label did, or one blank after it. */
+/**
+ * Moves a label that was just written after blanks to the first column, where it belongs: what follows begins where the label did, or one
+ * blank after it.
+ */
 function moveLabel(cm) {
     const { line, ch } = cm.getCursor();
     const text = cm.getLine(line);
@@ -77,7 +87,9 @@ function newLine(cm) {
     cm.scrollIntoView(null);
 }
 
-const hintOf = (text, isWritten, meaning) => ({ text, isWritten, render: (node) => node.append(h("b", {}, text), " ", h("span", {}, meaning)) });
+const hintOf = (text, isWritten, meaning) => (
+    { text, isWritten, render: (node) => node.append(h("b", {}, text), " ", h("span", {}, meaning)) }
+);
 
 /** What completes the word before the cursor. */
 function completionsOf(cm, { table }, labels, commentOf) {
@@ -85,13 +97,22 @@ function completionsOf(cm, { table }, labels, commentOf) {
     const asked = askedAt(cm.getLine(line), ch);
     if (asked === null) return null;
     const found = asked.kind === "operation" ? operationsWith(asked.text, table).map(({ name, meaning }) => [name, meaning])
-        : labels.filter(({ name }) => name.startsWith(asked.text)).slice(0, OFFERED).map(({ name, line: at, rest }) => [name, commentOf(at, rest)]);
-    return { from: CodeMirror.Pos(line, asked.from), to: CodeMirror.Pos(line, ch), list: found.map(([name, meaning]) => hintOf(name, name === asked.text, meaning)) };
+        : labels.filter(({ name }) => name.startsWith(asked.text))
+            .slice(0, OFFERED)
+            .map(({ name, line: at, rest }) => [name, commentOf(at, rest)]);
+    return {
+        from: CodeMirror.Pos(line, asked.from),
+        to: CodeMirror.Pos(line, ch),
+        list: found.map(([name, meaning]) => hintOf(name, name === asked.text, meaning)),
+    };
 }
 
 /** The keys of an open completion. Tab is none of them; and Enter begins a line where the word is written already. */
 const COMPLETION_KEYS = {
-    Up: (unused, list) => list.moveFocus(-1), Down: (unused, list) => list.moveFocus(1), PageUp: (unused, list) => list.moveFocus(1 - list.menuSize(), true), PageDown: (unused, list) => list.moveFocus(list.menuSize() - 1, true),
+    Up: (unused, list) => list.moveFocus(-1),
+    Down: (unused, list) => list.moveFocus(1),
+    PageUp: (unused, list) => list.moveFocus(1 - list.menuSize(), true),
+    PageDown: (unused, list) => list.moveFocus(list.menuSize() - 1, true),
     Esc: (unused, list) => list.close(),
     Enter: (cm, list) => {
         if (!list.data.list[cm.state.completionActive.widget.selectedHint].isWritten) return list.pick();
@@ -128,7 +149,22 @@ function makeCodeMirror(name, texts, place) {
     const value = before === undefined ? CodeMirror.Doc("", mode) : before.swapDoc(CodeMirror.Doc("", mode));
     const gutters = ["stops", "CodeMirror-linenumbers", "places"];
     const { phrases } = texts.table;
-    const cm = CodeMirror(place, { value, mode, theme, gutters, phrases, lineNumbers: true, scrollbarStyle: "null", inputStyle: "contenteditable", dragDrop: false, screenReaderLabel: texts.text("sourceLabel"), indentWithTabs: false, undoDepth: 1000, workTime: 20, workDelay: 100 });
+    const cm = CodeMirror(place, {
+        value,
+        mode,
+        theme,
+        gutters,
+        phrases,
+        lineNumbers: true,
+        scrollbarStyle: "null",
+        inputStyle: "contenteditable",
+        dragDrop: false,
+        screenReaderLabel: texts.text("sourceLabel"),
+        indentWithTabs: false,
+        undoDepth: 1000,
+        workTime: 20,
+        workDelay: 100,
+    });
     editors.set(name, cm);
     return cm;
 }
@@ -148,7 +184,10 @@ function makeGutters(cm, made) {
     });
 }
 
-/** Shows at the right edge what `edgeOf` tells for the lines that are seen, by their numbers: a text and what it is, or null. Nothing is shown in the line where somebody writes. */
+/**
+ * Shows at the right edge what `edgeOf` tells for the lines that are seen, by their numbers: a text and what it is, or null. Nothing is
+ * shown in the line where somebody writes.
+ */
 function makeEdge(cm, edgeOf) {
     const rows = h("div");
     let shown = "";
@@ -160,7 +199,11 @@ function makeEdge(cm, edgeOf) {
         const made = lines.map((line) => [line, edgeOf(line + 1)]).filter(([, value]) => value !== null);
         if (JSON.stringify(made) === shown) return;
         shown = JSON.stringify(made);
-        rows.replaceChildren(...made.map(([line, { text, is }]) => h("span", { class: is, style: `top: ${cm.heightAtLine(line, "local")}px`, "data-line": line + 1 }, text)));
+        rows.replaceChildren(
+            ...made.map(([line, { text, is }]) => (
+                h("span", { class: is, style: `top: ${cm.heightAtLine(line, "local")}px`, "data-line": line + 1 }, text)
+            ))
+        );
         place();
     };
     cm.getWrapperElement().append(h("div", { class: "edge", "aria-hidden": "true" }, rows));
@@ -169,7 +212,10 @@ function makeEdge(cm, edgeOf) {
     return show;
 }
 
-/** Marks the faults: the numbers of their lines, and their words. What is wrong is said below the editor: a text within it would push lines, and the cursor would stand beside it. */
+/**
+ * Marks the faults: the numbers of their lines, and their words. What is wrong is said below the editor: a text within it would push lines,
+ * and the cursor would stand beside it.
+ */
 function makeMarks(cm) {
     let marks = [];
     return (faults) => cm.operation(() => {
@@ -212,7 +258,9 @@ function makeLight(cm) {
 function makeInWork(cm) {
     let line = null;
     const now = () => cm.getCursor().line + 1;
-    cm.on("changes", (unused, changes) => { if (changes.some(({ origin }) => origin?.startsWith("+") || origin === "paste")) line = now(); });
+    cm.on("changes", (unused, changes) => {
+        if (changes.some(({ origin }) => origin?.startsWith("+") || origin === "paste")) line = now();
+    });
     cm.on("cursorActivity", () => { if (now() !== line) line = null; });
     cm.on("blur", () => { line = null; });
     return () => line;
@@ -223,7 +271,9 @@ function makeText(cm, changed) {
     let pieces = null;
     const value = () => {
         const at = pieces?.at.find();
-        return at === undefined ? cm.getValue() : cm.getRange(CodeMirror.Pos(0, 0), at) + pieces.rest + cm.getRange(at, CodeMirror.Pos(cm.lastLine()));
+        return at === undefined
+            ? cm.getValue()
+            : cm.getRange(CodeMirror.Pos(0, 0), at) + pieces.rest + cm.getRange(at, CodeMirror.Pos(cm.lastLine()));
     };
     const put = (text, at, origin, ended) => {
         const own = makePieces(cm, text, at, origin, () => { pieces = null; ended(); });
@@ -258,13 +308,20 @@ function makeText(cm, changed) {
 }
 
 /**
- * An editor. `changed` is told the text that is written, `actions` has what its keys do by their names, and `beside` tells for a line what stands beside it: a text that says whether that is
- * new, and its nodes by gutter, or null where that is not known; `edgeOf` tells what stands at its right edge; `commentOf` tells what is said of a label that completes a word.
+ * An editor. `changed` is told the text that is written, `actions` has what its keys do by their names, and `beside` tells for a line what
+ * stands beside it: a text that says whether that is
+ * new, and its nodes by gutter, or null where that is not known; `edgeOf` tells what stands at its right edge; `commentOf` tells what is
+ * said of a label that completes a word.
  */
-export function makeEditor(name, texts, { changed, actions = {}, beside = () => ["", {}], edgeOf = () => null, commentOf = (line, rest) => rest, pressed = () => {}, moved = () => {} }) {
+export function makeEditor(name, texts, {
+    changed, actions = {}, beside = () => ["", {}], edgeOf = () => null, commentOf = (line, rest) => rest, pressed = () => {},
+    moved = () => {},
+}) {
     const node = h("div", { class: "editor" });
     const cm = makeCodeMirror(name, texts, node);
-    for (const [attribute, is] of [["role", "textbox"], ["aria-multiline", "true"], ["data-name", `editor-${name}`]]) cm.getInputField().setAttribute(attribute, is);
+    for (const [attribute, is] of [["role", "textbox"], ["aria-multiline", "true"], ["data-name", `editor-${name}`]]) {
+        cm.getInputField().setAttribute(attribute, is);
+    }
     const completes = () => complete(cm, texts, commentOf);
     cm.setOption("extraKeys", keysOf(actions, completes));
     const text = makeText(cm, changed);
@@ -272,17 +329,37 @@ export function makeEditor(name, texts, { changed, actions = {}, beside = () => 
     cm.on("viewportChange", gutters);
     cm.on("renderLine", setIn);
     cm.on("inputRead", (unused, { origin, text: [typed] }) => { if (origin === "+input" && typed === " ") moveLabel(cm); });
-    cm.on("inputRead", (unused, { origin, text: [typed] }) => { if (origin === "+input" && /^[a-z]$/.test(typed) && !cm.state.completionActive) completes(); });
+    cm.on("inputRead", (unused, { origin, text: [typed] }) => {
+        if (origin === "+input" && /^[a-z]$/.test(typed) && !cm.state.completionActive) completes();
+    });
     const inWork = makeInWork(cm);
     for (const kind of ["cursorActivity", "blur"]) cm.on(kind, moved);
     cm.on("gutterClick", (unused, line) => pressed(line + 1));
     // what is written is read out, and not what stands beside it
-    cm.on("update", () => { for (const it of node.querySelectorAll(".CodeMirror-gutter-wrapper:not([aria-hidden])")) it.setAttribute("aria-hidden", "true"); });
+    cm.on("update", () => {
+        for (const it of node.querySelectorAll(".CodeMirror-gutter-wrapper:not([aria-hidden])")) it.setAttribute("aria-hidden", "true");
+    });
     new ResizeObserver(() => cm.refresh()).observe(node);
     const goTo = (line, from, to) => {
         cm.focus();
         cm.setSelection({ line: line - 1, ch: from }, { line: line - 1, ch: to });
         cm.scrollIntoView({ line: line - 1, ch: from }, 60);
     };
-    return { node, value: text.value, set: text.set, rewrite: (written) => cm.replaceRange(written, CodeMirror.Pos(0, 0), CodeMirror.Pos(cm.lastLine())), isWhole: text.isWhole, showBeside: () => { gutters(); edge(); }, seen: () => cm.getViewport(), refresh: () => cm.refresh(), showFaults: makeMarks(cm), light: makeLight(cm), goTo, focus: () => cm.focus(), inWork, line: () => cm.getCursor().line + 1, operation: () => tokensOf(cm.getLine(cm.getCursor().line)).find(({ kind }) => kind === "operation")?.text ?? null };
+    return {
+        node,
+        value: text.value,
+        set: text.set,
+        rewrite: (written) => cm.replaceRange(written, CodeMirror.Pos(0, 0), CodeMirror.Pos(cm.lastLine())),
+        isWhole: text.isWhole,
+        showBeside: () => { gutters(); edge(); },
+        seen: () => cm.getViewport(),
+        refresh: () => cm.refresh(),
+        showFaults: makeMarks(cm),
+        light: makeLight(cm),
+        goTo,
+        focus: () => cm.focus(),
+        inWork,
+        line: () => cm.getCursor().line + 1,
+        operation: () => tokensOf(cm.getLine(cm.getCursor().line)).find(({ kind }) => kind === "operation")?.text ?? null,
+    };
 }

@@ -10,7 +10,9 @@ import { apart, inRadians, turned } from "./pins.mjs";
 const [PIN, RIM, GAP] = [{ width: 82, height: 38 }, 340, 8];
 
 /** How far from the centre a pin is that lies beside the rim at an angle. */
-export const distanceOf = (angle, { width, height }) => RIM + GAP + (width / 2) * Math.abs(Math.sin(inRadians(angle))) + (height / 2) * Math.abs(Math.cos(inRadians(angle)));
+export const distanceOf = (angle, { width, height }) => (
+    RIM + GAP + (width / 2) * Math.abs(Math.sin(inRadians(angle))) + (height / 2) * Math.abs(Math.cos(inRadians(angle)))
+);
 
 /** A place of the window as seen from the centre of a drum: its angle, clockwise from above, and how far it is, in the picture of 800. */
 function seenFrom({ clientX, clientY }, box) {
@@ -25,9 +27,21 @@ const sectorBelow = (event, box, position) => sectorAt(Math.round(seenFrom(event
 /** By how many places a key moves a word. */
 const MOVES = { ArrowRight: 1, ArrowUp: 1, ArrowLeft: -1, ArrowDown: -1, PageUp: 8, PageDown: -8 };
 
-/** The pin of a word. It is taken and carried, there or by the cell in which the word lies, or moved by keys; a touch that is cancelled puts the word back. */
+/**
+ * The pin of a word. It is taken and carried, there or by the cell in which the word lies, or moved by keys; a touch that is cancelled puts
+ * the word back.
+ */
 function makeGrip({ address, name }, hands, place) {
-    const node = h("div", { class: "grip", role: "slider", tabindex: "0", "data-word": address, "aria-label": name, "aria-valuemin": 0, "aria-valuemax": SECTORS - 1 }, h("span", { class: "ribs", "aria-hidden": "true" }), name, h("i", { class: "hold" }));
+    const node = h(
+        "div",
+        {
+            class: "grip", role: "slider", tabindex: "0", "data-word": address, "aria-label": name, "aria-valuemin": 0,
+            "aria-valuemax": SECTORS - 1,
+        },
+        h("span", { class: "ribs", "aria-hidden": "true" }),
+        name,
+        h("i", { class: "hold" })
+    );
     let before = null;
     const move = (sector) => { if (sector !== hands.sectorOf(address)) hands.move(address, sector); };
     const end = (isCancelled) => {
@@ -47,7 +61,9 @@ function makeGrip({ address, name }, hands, place) {
         before = hands.sectorOf(address);
     });
     node.addEventListener("pointermove", (event) => { if (before !== null) move(sectorBelow(event, ...place())); });
-    for (const kind of ["pointerup", "pointercancel", "lostpointercapture"]) node.addEventListener(kind, () => end(kind === "pointercancel"));
+    for (const kind of ["pointerup", "pointercancel", "lostpointercapture"]) {
+        node.addEventListener(kind, () => end(kind === "pointercancel"));
+    }
     node.addEventListener("focus", () => hands.pick(address));
     node.addEventListener("keydown", (event) => {
         const by = MOVES[event.key];
@@ -64,28 +80,47 @@ function makeGrip({ address, name }, hands, place) {
 }
 
 /** The pin of a word that may not be moved: it has no grip, and says why when it is pressed. */
-const makeFixedPin = ({ address, name, kind }, hands) => h("button", { type: "button", class: `grip fixed ${kind}`, "data-word": address, onclick: () => hands.refuse(kind) }, name);
+const makeFixedPin = ({ address, name, kind }, hands) => (
+    h("button", { type: "button", class: `grip fixed ${kind}`, "data-word": address, onclick: () => hands.refuse(kind) }, name)
+);
 
-/** The pins of words around a drum; `show` gives the angles at which they lie, and is told how many pixels beyond the picture's sides, below it and above it they may be. `hands` has `sectorOf` and `says` of a word by its address, `pick`, `move`, which moves it to a sector,
- * `back`, which moves it to its own, `drop`, and `refuse`, which is told the kind of a word that may not be moved. */
+/**
+ * The pins of words around a drum; `show` gives the angles at which they lie, and is told how many pixels beyond the picture's sides, below
+ * it and above it they may be. `hands` has `sectorOf` and `says` of a word by its address, `pick`, `move`, which moves it to a sector,
+ * `back`, which moves it to its own, `drop`, and `refuse`, which is told the kind of a word that may not be moved.
+ */
 export function makeGrips(box, hands) {
     const lines = s("svg", { class: "stems", viewBox: "0 0 800 720", "aria-hidden": "true" });
     const layer = h("div", { class: "grips" });
     let [grips, position] = [new Map(), 0];
     box.append(lines, layer);
     const put = (words) => {
-        grips = new Map(words.map((word) => [word.address, (word.kind ?? "free") === "free" ? makeGrip(word, hands, () => [box, position]) : makeFixedPin(word, hands)]));
+        grips = new Map(
+            words.map((word) => (
+                [word.address, (word.kind ?? "free") === "free" ? makeGrip(word, hands, () => [box, position]) : makeFixedPin(word, hands)]
+            ))
+        );
         layer.replaceChildren(...grips.values());
         lines.replaceChildren();
     };
     const show = (now, scale, isBest, beyond, below = Infinity, above = Infinity) => {
         position = now;
-        const pins = [...grips].map(([name, node]) => ({ name, angle: angleOf(hands.sectorOf(name), now), width: Math.max(PIN.width, node.offsetWidth / scale), height: Math.max(PIN.height, node.offsetHeight / scale) }));
+        const pins = [...grips].map(([name, node]) => (
+            {
+                name,
+                angle: angleOf(hands.sectorOf(name), now),
+                width: Math.max(PIN.width, node.offsetWidth / scale),
+                height: Math.max(PIN.height, node.offsetHeight / scale),
+            }
+        ));
         const angles = apart(pins, distanceOf);
         const placeOf = (pin) => {
             const [wide, low] = at(angles.get(pin.name), distanceOf(angles.get(pin.name), pin));
             const most = 400 + beyond / scale - pin.width / 2;
-            return [400 + Math.max(-most, Math.min(most, wide - 400)), Math.max(pin.height / 2 - above / scale, Math.min(720 + below / scale - pin.height / 2, low))];
+            return [
+                400 + Math.max(-most, Math.min(most, wide - 400)),
+                Math.max(pin.height / 2 - above / scale, Math.min(720 + below / scale - pin.height / 2, low)),
+            ];
         };
         lines.replaceChildren(...pins.map((pin) => s("path", { d: `M ${fixed(at(pin.angle, 319))} L ${fixed(placeOf(pin))}` })));
         for (const pin of pins) {
@@ -164,12 +199,16 @@ function hearWheelAndKeys(node, turning) {
 
 /** What turns the drum: its ring and its rim, by a drag, a wheel or keys. */
 export function makeTurner(box, { text, code }, turning) {
-    const node = h("div", { class: "turner", role: "slider", tabindex: "0", "aria-label": text("turnDrum"), "aria-valuemin": 0, "aria-valuemax": SECTORS - 1 });
+    const node = h("div", {
+        class: "turner", role: "slider", tabindex: "0", "aria-label": text("turnDrum"), "aria-valuemin": 0, "aria-valuemax": SECTORS - 1,
+    });
     let began = null;
     const show = () => {
         const { clock, left } = turning;
         node.setAttribute("aria-valuenow", Math.floor(clock) % SECTORS);
-        node.setAttribute("aria-valuetext", text(left > 0 ? "turnSays" : "turnRests", { clock: counted(Math.floor(clock), code), left: Math.ceil(left) }));
+        node.setAttribute(
+            "aria-valuetext", text(left > 0 ? "turnSays" : "turnRests", { clock: counted(Math.floor(clock), code), left: Math.ceil(left) })
+        );
         const turns = Math.round(clock - began);
         if (began === null) delete box.dataset.turned;
         else box.dataset.turned = text("turnedBy", { times: turns < 0 ? `−${-turns}` : `+${turns}` });

@@ -1,4 +1,5 @@
-// The kiosk: one program that plays by itself with captions until it is touched, a story of its first orders, a game, four large buttons in each state, and a return to the beginning after a time without input.
+// The kiosk: one program that plays by itself with captions until it is touched, a story of its first orders, a game, four large buttons in
+// each state, and a return to the beginning after a time without input.
 import { headOf } from "../lines.mjs";
 import { counted, turnsOf } from "../words.mjs";
 import { button, h, tell } from "./dom.mjs";
@@ -15,8 +16,10 @@ function lastingIn({ script }, { text }) {
     return [text("kiosk_drum"), text("kiosk_waits"), ...(title === "" ? [] : [text("kioskProgram", { title: `${title}.` })])];
 }
 
-/** What is told while a program plays by itself: of the order under way, whose tile stands before it, or, where that is nothing that can be read in its time, what holds at any moment. Where nothing may move the
- * captions follow one another as the exhibit says. */
+/**
+ * What is told while a program plays by itself: of the order under way, whose tile stands before it, or, where that is nothing that can be
+ * read in its time, what holds at any moment. Where nothing may move the captions follow one another as the exhibit says.
+ */
 function makeHappenings(laboratory, texts, { drive, playing, markNow, isStill }, exhibit, told) {
     let [shown, began] = [null, performance.now()];
     const lasting = () => {
@@ -52,7 +55,12 @@ export function endText(laboratory, texts, exhibit) {
     if (way.kind === "keys") return text("kioskKeys");
     const [paper, waited] = [printed.text.trim(), waitedIn(laboratory)];
     const did = text("kioskDid", { orders: counted(behind + forgotten, code), turns: turnsOf(Number(panel.clock - begunAt), texts) });
-    return [paper !== "" && paper.length <= SHORT ? text("kioskHasPrinted", { paper }) : text("kioskHasEnded"), did, waited === null ? "" : text("kioskWaited", { share: waited }), text(exhibit.offers("faster") ? "kioskAsksFaster" : "kioskAsks")].filter((it) => it !== "").join(" ");
+    return [
+        paper !== "" && paper.length <= SHORT ? text("kioskHasPrinted", { paper }) : text("kioskHasEnded"),
+        did,
+        waited === null ? "" : text("kioskWaited", { share: waited }),
+        text(exhibit.offers("faster") ? "kioskAsksFaster" : "kioskAsks"),
+    ].filter((it) => it !== "").join(" ");
 }
 
 /** What is told in the story: what the order does that is played, or was the last; what it has rewritten is added when it is done. */
@@ -60,10 +68,15 @@ function storyNodes(laboratory, texts, { held }, exhibit) {
     const account = laboratory.accounts.at(-1);
     if (exhibit.at === 0 || account === undefined) return [texts.text("kioskIntro")];
     const event = held() === null ? rewrittenBy(account) : null;
-    return [...sentenceOf(account, texts), ...(event === null ? [] : [" ", h("span", { class: "rewriting" }, texts.text("rewritten", event))])];
+    return [
+        ...sentenceOf(account, texts), ...(event === null ? [] : [" ", h("span", { class: "rewriting" }, texts.text("rewritten", event))]),
+    ];
 }
 
-/** What is told at the top, in each state: in the story what the order does, in the game whose turn it is, while it plays what happens, and at the end what was done. */
+/**
+ * What is told at the top, in each state: in the story what the order does, in the game whose turn it is, while it plays what happens, and
+ * at the end what was done.
+ */
 function makeTold(laboratory, texts, showing, exhibit) {
     const { text } = texts;
     const { drive, held } = showing;
@@ -91,17 +104,24 @@ const PRIMARY = { attract: [1], story: [2], show: [2], end: [1] };
 /** What a button says: the name of a text of the page, or a text in each language. */
 const labelIn = (label, { text, code }) => (typeof label === "string" ? text(label) : label[code]);
 
-/** The four buttons: each has its number, by which a key presses it. The second press of a double one is not meant for what the first one has led to in a game. */
+/**
+ * The four buttons: each has its number, by which a key presses it. The second press of a double one is not meant for what the first one
+ * has led to in a game.
+ */
 export function makeButtons(texts, exhibit) {
     const { code } = texts;
-    const buttons = [1, 2, 3, 4].map((number) => button("", ({ detail }) => (detail > 1 && exhibit.state === "matches" ? undefined : exhibit.press(number)), { id: `kiosk-${number}` }));
+    const buttons = [1, 2, 3, 4].map((number) => button(
+        "", ({ detail }) => (detail > 1 && exhibit.state === "matches" ? undefined : exhibit.press(number)), { id: `kiosk-${number}` }
+    ));
     const show = () => {
         const { labels, state } = exhibit;
         for (const [place, control] of buttons.entries()) {
             const label = labels[place];
             tell(control, label === null ? "" : labelIn(label, texts));
             control.classList.toggle("none", label === null);
-            control.classList.toggle("primary", (exhibit.main === undefined ? PRIMARY[state]?.includes(place + 1) : exhibit.main === place + 1) ?? false);
+            control.classList.toggle(
+                "primary", (exhibit.main === undefined ? PRIMARY[state]?.includes(place + 1) : exhibit.main === place + 1) ?? false
+            );
             if (label === "kioskLanguage") control.lang = code === "de" ? "en" : "de";
             else control.removeAttribute("lang");
         }
@@ -110,22 +130,45 @@ export function makeButtons(texts, exhibit) {
 }
 
 /** The colours of the phases with their words. */
-const colours = ({ text }) => h("p", { class: "colours" }, ...["find", "take", "seek", "act"].map((phase) => h("span", {}, h("span", { class: `dot ${phase}` }), text(`colour_${phase}`))));
+const colours = ({ text }) => h(
+    "p",
+    { class: "colours" },
+    ...["find", "take", "seek", "act"].map((phase) => h("span", {}, h("span", { class: `dot ${phase}` }), text(`colour_${phase}`)))
+);
 
-/** The kiosk: header, main and footer. `made` has the views of the page that it shows, `others` the small buttons at the top, and `views` what it opens beside the machine. Which of them are seen follows from the
- * state. */
+/**
+ * The kiosk: header, main and footer. `made` has the views of the page that it shows, `others` the small buttons at the top, and `views`
+ * what it opens beside the machine. Which of them are seen follows from the state.
+ */
 export function makeKiosk(laboratory, texts, showing, exhibit, made, others, views) {
     const { text } = texts;
     const [told, buttons] = [makeTold(laboratory, texts, showing, exhibit), makeButtons(texts, exhibit)];
     const hint = h("p", { class: "kiosk-hint" });
     const header = h("header", {}, h("h1", {}, text("kioskTitle")), h("div", { class: "others" }, ...others), told.node, hint);
-    const cabinet = h("div", { class: "cabinet" }, h("p", { class: "plate" }, h("b", {}, "ROYAL McBEE LGP-30")), made.drum.node, colours(texts));
+    const cabinet = h(
+        "div", { class: "cabinet" }, h("p", { class: "plate" }, h("b", {}, "ROYAL McBEE LGP-30")), made.drum.node, colours(texts)
+    );
     const shown = { show: () => {
         document.body.dataset.state = exhibit.state;
         document.body.toggleAttribute("data-opening", exhibit.isOpening);
         tell(hint, { attract: text("kioskTouch"), story: text("kioskOrder", { at: exhibit.at }) }[exhibit.state] ?? "");
     } };
-    return { nodes: [header, h("main", {}, cabinet, made.scope.node, made.heap.node, h("div", { class: "flexowriter" }, made.paper.node, made.deck.node), ...Object.values(views).map(({ node }) => node)), h("footer", {}, buttons.node)], views: [told, buttons, shown, ...Object.values(made)] };
+    return {
+        nodes: [
+            header,
+            h(
+                "main",
+                {},
+                cabinet,
+                made.scope.node,
+                made.heap.node,
+                h("div", { class: "flexowriter" }, made.paper.node, made.deck.node),
+                ...Object.values(views).map(({ node }) => node)
+            ),
+            h("footer", {}, buttons.node),
+        ],
+        views: [told, buttons, shown, ...Object.values(made)],
+    };
 }
 
 /** What a visitor's hand may do beside pressing: nothing of it is taken, so that the exhibit stays as it is. */
@@ -146,7 +189,10 @@ export function refuseOthers() {
 /** The key combination that leaves the kiosk. */
 export const isLeaving = ({ key, ctrlKey, shiftKey }) => ctrlKey && shiftKey && key.toLowerCase() === "l";
 
-/** Calls `reset` after this number of seconds in which nobody touched the page, and `touched` at each touch, before a button hears it. Returns what ends the watch. */
+/**
+ * Calls `reset` after this number of seconds in which nobody touched the page, and `touched` at each touch, before a button hears it.
+ * Returns what ends the watch.
+ */
 export function watchIdle(seconds, reset, touched) {
     let timer;
     const again = () => {

@@ -1,15 +1,21 @@
-// A game at the kiosk: its buttons stand for keys, switches and conditional stop, over the program of the example. What a button sends are lines
+// A game at the kiosk: its buttons stand for keys, switches and conditional stop, over the program of the example. What a button sends are
+// lines
 // of its script; the heap is what the machine's words say, and whose turn it is and who has won what it has printed.
 import { h, s } from "./dom.mjs";
 
-/** The games by their examples: the lines that set the switches, those of the moves, the labels of the heap and of its number at first with the place of their point, and what the paper says. */
+/**
+ * The games by their examples: the lines that set the switches, those of the moves, the labels of the heap and of its number at first with
+ * the place of their point, and what the paper says.
+ */
 export const KIOSK_GAMES = new Map([["games/matches", {
     set: ["press bp8 down"], moves: ["type 1'", "type 2'", "type 3'"], heap: { labels: ["left", "matches"], point: 29 },
     says: { won: /^you win$/, lost: /^i win$/, took: /i take (\d)$/ },
 }]]);
 
 /** The lines that ask for the heap and its number at first, by the labels of the source. */
-export const asksOf = ({ heap: { labels, point } }, byAddress) => labels.map((label) => `numbers ${[...byAddress].find(([, names]) => names.includes(label))[0]} 1 ${point}`);
+export const asksOf = ({ heap: { labels, point } }, byAddress) => (
+    labels.map((label) => `numbers ${[...byAddress].find(([, names]) => names.includes(label))[0]} 1 ${point}`)
+);
 
 /** The number at the end of a reply of `numbers`. */
 export const numberIn = (reply) => Number(reply.trimEnd().split(" ").at(-1)) || 0;
@@ -39,9 +45,21 @@ export function makeHeap(laboratory, { text }) {
         const [left = 0, most = 0] = laboratory.answers.map(numberIn);
         if (shown === `${left} ${most}`) return;
         shown = `${left} ${most}`;
-        const match = (unused, place) => s("g", { class: place < left ? "match" : "taken", transform: `translate(${16 * place} 0)` }, s("rect", { x: 5, y: 14, width: 6, height: 82 }), s("ellipse", { cx: 8, cy: 12, rx: 6, ry: 9 }));
+        const match = (unused, place) => s(
+            "g",
+            { class: place < left ? "match" : "taken", transform: `translate(${16 * place} 0)` },
+            s("rect", { x: 5, y: 14, width: 6, height: 82 }),
+            s("ellipse", { cx: 8, cy: 12, rx: 6, ry: 9 })
+        );
         const places = Math.min(100, Math.max(left, most));
-        node.replaceChildren(s("svg", { viewBox: `0 0 ${16 * places} 100`, role: "img", "aria-label": text("gameHeap", { count: left }) }, ...Array.from({ length: places }, match)), h("p", { "aria-hidden": "true" }, text("gameHeap", { count: left })));
+        node.replaceChildren(
+            s(
+                "svg",
+                { viewBox: `0 0 ${16 * places} 100`, role: "img", "aria-label": text("gameHeap", { count: left }) },
+                ...Array.from({ length: places }, match)
+            ),
+            h("p", { "aria-hidden": "true" }, text("gameHeap", { count: left }))
+        );
     };
     return { node, show };
 }

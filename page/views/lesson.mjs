@@ -1,4 +1,5 @@
-// A lesson as steps, of which the one in work is seen: one that is done is ticked off, by what the machine shows or by an answer that is compared with it.
+// A lesson as steps, of which the one in work is seen: one that is done is ticked off, by what the machine shows or by an answer that is
+// compared with it.
 import { bringTo } from "../lesson_solutions.mjs";
 import { LESSONS } from "../lesson_steps.mjs";
 import { button, h, part, tell } from "./dom.mjs";
@@ -13,7 +14,10 @@ const tellMarked = (node, text) => node.replaceChildren(...marked(text));
 
 /** The box for an answer. A wrong one is met by a hint, and the next wrong one by what is right as well. */
 function makeAnswer(laboratory, step, place, { text }, hint, { done, undone }, drafts) {
-    const input = drafts.held(h("input", { size: 8, "aria-label": text("answer", { number: place + 1 }), autocapitalize: "off", autocomplete: "off" }), `answer/${step.lesson}/${place}`);
+    const input = drafts.held(
+        h("input", { size: 8, "aria-label": text("answer", { number: place + 1 }), autocapitalize: "off", autocomplete: "off" }),
+        `answer/${step.lesson}/${place}`
+    );
     let wrong = 0;
     const check = () => {
         if (plain(input.value) === "") return tell(hint, text("lessonNoAnswer"));
@@ -24,16 +28,25 @@ function makeAnswer(laboratory, step, place, { text }, hint, { done, undone }, d
         tellMarked(hint, isRight ? text("lessonRight") : wrong === 1 ? step.hint : `${step.hint} ${text("lessonWouldBe", { answer })}`);
         return isRight ? done() : undefined;
     };
-    return h("form", { class: "line answer", onsubmit: (event) => { event.preventDefault(); check(); } }, input, button(text("check"), check));
+    return h(
+        "form", { class: "line answer", onsubmit: (event) => { event.preventDefault(); check(); } }, input, button(text("check"), check)
+    );
 }
 
-/** What is done with in a step: a box for lines with the last reply, where lines are typed; and a box for an answer, or a button for the hint. */
+/**
+ * What is done with in a step: a box for lines with the last reply, where lines are typed; and a box for an answer, or a button for the
+ * hint.
+ */
 function makeControls(laboratory, step, place, texts, hint, ends, drafts) {
     const { text } = texts;
-    const box = step.types ? makeLineBox(laboratory, texts, drafts, text("lineOfStep", { number: place + 1 }), `line/${step.lesson}/${place}`) : null;
+    const box = step.types
+        ? makeLineBox(laboratory, texts, drafts, text("lineOfStep", { number: place + 1 }), `line/${step.lesson}/${place}`)
+        : null;
     const reply = step.types ? h("pre", { class: "reply", role: "status" }) : null;
     box?.node.classList.add("types");
-    const control = step.answer === undefined ? button(text("hint"), () => tellMarked(hint, step.hint), { class: "for-hint" }) : makeAnswer(laboratory, step, place, texts, hint, ends, drafts);
+    const control = step.answer === undefined
+        ? button(text("hint"), () => tellMarked(hint, step.hint), { class: "for-hint" })
+        : makeAnswer(laboratory, step, place, texts, hint, ends, drafts);
     const show = () => {
         const last = laboratory.talk.findLast(({ line }) => !step.lines.includes(line));
         box?.show();
@@ -49,10 +62,19 @@ const isAstray = ({ panel, notice }) => panel.status === "halted stop" || notice
 function makeStep(laboratory, step, place, texts, ends, drafts) {
     const { text } = texts;
     const [mark, hint] = [h("span", { class: "mark", "aria-hidden": "true" }), h("span", { class: "hint", role: "status" })];
-    const lines = step.lines.length === 0 ? null : h("div", { class: "lines-of-step" }, text("lessonLines"), h("pre", { tabindex: "0", role: "group", "aria-label": text("lessonLines") }, step.lines.join("\n")));
+    const lines = step.lines.length === 0
+        ? null
+        : h(
+            "div",
+            { class: "lines-of-step" },
+            text("lessonLines"),
+            h("pre", { tabindex: "0", role: "group", "aria-label": text("lessonLines") }, step.lines.join("\n"))
+        );
     const controls = makeControls(laboratory, step, place, texts, hint, ends, drafts);
     const state = h("span", { class: "unseen" });
-    const node = h("li", { tabindex: "-1" }, mark, h("div", {}, state, h("span", { class: "what" }, ...marked(step.text)), lines, controls.node, hint));
+    const node = h(
+        "li", { tabindex: "-1" }, mark, h("div", {}, state, h("span", { class: "what" }, ...marked(step.text)), lines, controls.node, hint)
+    );
     const show = (isDone, isNow) => {
         tell(mark, isDone ? "✓" : String(place + 1));
         tell(state, isDone ? `${text("stepDone")} ` : "");
@@ -68,7 +90,10 @@ function makeStep(laboratory, step, place, texts, ends, drafts) {
     return { ...step, node, show, isSetUp: step.opens !== undefined || step.lines.length > 0 };
 }
 
-/** The rows of steps, below the names of their parts; a press of a name begins with that part. Only the step in work is seen, with the name of its part. */
+/**
+ * The rows of steps, below the names of their parts; a press of a name begins with that part. Only the step in work is seen, with the name
+ * of its part.
+ */
 function rowsOf(steps, { text }, begin) {
     return [...new Set(steps.map((step) => step.part))].flatMap((name) => {
         const first = steps.findIndex((step) => step.part === name);
@@ -82,12 +107,20 @@ function makeRail({ text }, goTo) {
     const list = h("ol", { "aria-label": text("steps") });
     const node = h("div", { class: "rail" }, list);
     const layOut = (count, links) => {
-        list.replaceChildren(...Array.from({ length: count }, (unused, place) => h("li", {}, button("", () => goTo(place), { class: "mark", "data-name": `step-${place}` }))));
+        list.replaceChildren(
+            ...Array.from(
+                { length: count },
+                (unused, place) => h("li", {}, button("", () => goTo(place), { class: "mark", "data-name": `step-${place}` }))
+            )
+        );
         node.replaceChildren(list, ...links);
     };
     const show = ({ at, isDone }) => [...node.querySelectorAll("button")].forEach((mark, place) => {
         tell(mark, isDone.has(place) ? "✓" : String(place + 1));
-        mark.setAttribute("aria-label", [isDone.has(place) ? text("stepDone") : "", text("stepNumber", { number: place + 1 })].filter((it) => it !== "").join(" "));
+        mark.setAttribute(
+            "aria-label",
+            [isDone.has(place) ? text("stepDone") : "", text("stepNumber", { number: place + 1 })].filter((it) => it !== "").join(" ")
+        );
         mark.classList.toggle("is-done", isDone.has(place));
         if (place === at) mark.setAttribute("aria-current", "step");
         else mark.removeAttribute("aria-current");
@@ -95,7 +128,10 @@ function makeRail({ text }, goTo) {
     return { node, layOut, show };
 }
 
-/** The ways through a lesson: the rail, and below the step in work two buttons to the steps before and after it, of which the latter is highlighted when that is done. The machine's own buttons have other names. `leadTo` goes to a step, and `next` on. */
+/**
+ * The ways through a lesson: the rail, and below the step in work two buttons to the steps before and after it, of which the latter is
+ * highlighted when that is done. The machine's own buttons have other names. `leadTo` goes to a step, and `next` on.
+ */
 function makeWays(texts, pupil, leadTo, next) {
     const { text } = texts;
     const rail = makeRail(texts, leadTo);
@@ -107,21 +143,39 @@ function makeWays(texts, pupil, leadTo, next) {
         nextOne.disabled = pupil.at === count;
         nextOne.classList.toggle("primary", pupil.isDone.has(pupil.at));
     };
-    return { rail: rail.node, foot: h("div", { class: "line lesson-foot" }, backOne, nextOne), layOut: rail.layOut, show, focusNext: () => nextOne.focus({ preventScroll: true }) };
+    return {
+        rail: rail.node,
+        foot: h("div", { class: "line lesson-foot" }, backOne, nextOne),
+        layOut: rail.layOut,
+        show,
+        focusNext: () => nextOne.focus({ preventScroll: true }),
+    };
 }
 
-/** Where a pupil is: the lesson, or null, the place of its step, and the places of those that are done. It outlasts a change of the language. */
+/**
+ * Where a pupil is: the lesson, or null, the place of its step, and the places of those that are done. It outlasts a change of the
+ * language.
+ */
 export const noLesson = () => ({ lesson: null, at: 0, isDone: new Set() });
 
-/** The steps of the pupil's lesson: a rail of all, the one in work, and Back and Next. A step that is done is ticked off, and Next goes on; before that, Next has what the step asks for done. `told` is called when a
- * step is reached or done. */
+/**
+ * The steps of the pupil's lesson: a rail of all, the one in work, and Back and Next. A step that is done is ticked off, and Next goes on;
+ * before that, Next has what the step asks for done. `told` is called when a step is reached or done.
+ */
 function makeSteps(laboratory, texts, open, pupil, drafts, told) {
     let [steps, round, isReady] = [[], 0, true];
     const [list, ended] = [h("div", { class: "steps" }), h("p", { role: "status", class: "lesson-end", tabindex: "-1" })];
     const ways = makeWays(texts, pupil, (place) => leadTo(place), () => (pupil.isDone.has(pupil.at) ? reach : leadTo)(pupil.at + 1));
     const layOut = (written, links) => {
         round += 1;
-        steps = (pupil.lesson?.steps ?? []).map((step, place) => makeStep(laboratory, { ...step, ...written[place], lesson: pupil.lesson.name }, place, texts, { done: () => done(), undone: () => undone(place) }, drafts));
+        steps = (pupil.lesson?.steps ?? []).map((step, place) => makeStep(
+            laboratory,
+            { ...step, ...written[place], lesson: pupil.lesson.name },
+            place,
+            texts,
+            { done: () => done(), undone: () => undone(place) },
+            drafts
+        ));
         ways.layOut(steps.length, links);
         list.replaceChildren(...rowsOf(steps, texts, again), ended);
     };
@@ -178,8 +232,10 @@ function makeSteps(laboratory, texts, open, pupil, drafts, told) {
     return { nodes: [ways.rail, list, ways.foot], layOut, reach, bring: leadTo, goOn, show };
 }
 
-/** The part of the page with the choice of a lesson or a task, one of which is open at most, and the lesson where the pupil is. `open` sets the machine up for a step, `told` is called when
- * another place is reached, and `sheets` makes links to the sheets of a lesson. */
+/**
+ * The part of the page with the choice of a lesson or a task, one of which is open at most, and the lesson where the pupil is. `open` sets
+ * the machine up for a step, `told` is called when another place is reached, and `sheets` makes links to the sheets of a lesson.
+ */
 export function makeLesson(laboratory, texts, { open, pupil, tasks, drafts, told, sheets, isSeen }) {
     const { text, table } = texts;
     const about = h("p", { class: "about" });
@@ -187,7 +243,9 @@ export function makeLesson(laboratory, texts, { open, pupil, tasks, drafts, told
     const lessons = LESSONS.map((it) => button(table.lessons[it.name].title, () => begin(it, null), { "data-lesson": it.name }));
     const others = tasks.titles.map(([name, title]) => button(title, () => begin(null, name), { "data-task": name }));
     const chosen = h("summary", {});
-    const row = (name, controls) => h("div", { class: "line", role: "group", "aria-label": name }, h("span", { "aria-hidden": "true" }, name), ...controls);
+    const row = (name, controls) => (
+        h("div", { class: "line", role: "group", "aria-label": name }, h("span", { "aria-hidden": "true" }, name), ...controls)
+    );
     const choice = h("details", { class: "choice-of-lesson" }, chosen, row(text("lessonsName"), lessons), row(text("tasksName"), others));
     const begin = (lesson, task) => {
         place(lesson, task);
@@ -225,5 +283,10 @@ export function makeLesson(laboratory, texts, { open, pupil, tasks, drafts, told
         if (pupil.lesson !== null && isSeen()) steps.show();
     };
     layOut();
-    return { node: part("lesson", text("learn"), choice, about, ...steps.nodes), show, openAt, goOn: () => (pupil.lesson === null ? show() : steps.goOn()) };
+    return {
+        node: part("lesson", text("learn"), choice, about, ...steps.nodes),
+        show,
+        openAt,
+        goOn: () => (pupil.lesson === null ? show() : steps.goOn()),
+    };
 }

@@ -1,11 +1,14 @@
-// The words around the counter: the order under way lit, and what comes after it marked; changed words in colour with an arrow from the order that wrote them.
+// The words around the counter: the order under way lit, and what comes after it marked; changed words in colour with an arrow from the
+// order that wrote them.
 import { wholeAt } from "../kinds.mjs";
 import { button, h, memoized, oneStop, part, refill, s, tell, unseen } from "./dom.mjs";
 import { letterOf, rewrittenBy } from "./says.mjs";
 import { keepWhole } from "./scrolling.mjs";
 
 /** What is told of the order that changed a word, if there was one. */
-const toldOf = (writer, text) => (writer === null ? "" : text("changed", { order: writer.order, at: writer.at ?? "–", clock: writer.clock }));
+const toldOf = (writer, text) => (
+    writer === null ? "" : text("changed", { order: writer.order, at: writer.at ?? "–", clock: writer.clock })
+);
 
 /** For how many orders it stands beside the words that the program has rewritten itself. */
 const REWRITTEN_ORDERS = 3;
@@ -20,7 +23,15 @@ function commentOf({ address, origin }, digits, comments) {
 function shownIn(word, { labels, comments, kinds }, { writer, stored, isNew, code }) {
     const isHeld = word.address === stored?.address;
     const { digits, order } = isHeld ? stored.before : word;
-    return { comment: commentOf(word, digits, comments), address: word.address, digits, order: wholeAt(kinds, word.address, digits, code) ?? order ?? `word ${digits}`, writer: isHeld ? null : writer, isNew, labels: labels.get(word.address) ?? [] };
+    return {
+        comment: commentOf(word, digits, comments),
+        address: word.address,
+        digits,
+        order: wholeAt(kinds, word.address, digits, code) ?? order ?? `word ${digits}`,
+        writer: isHeld ? null : writer,
+        isNew,
+        labels: labels.get(word.address) ?? [],
+    };
 }
 
 function row({ address, digits, order, writer, isNew, labels, comment }, { text, table }, ask) {
@@ -28,7 +39,15 @@ function row({ address, digits, order, writer, isNew, labels, comment }, { text,
     return h("tr", { class: `${writer === null ? "" : "changed"} ${isNew ? "new" : ""}`, "data-address": address },
         h("td", {}, button(address, () => ask(address), { class: "plain", title: `${address}: ${text("whyHint")}`, "data-name": address })),
         h("td", { class: "label" }, labels.join(" ")), h("td", {}, h("code", {}, digits)),
-        h("td", { title: meaning }, h("code", {}, order), unseen(meaning === "" ? "" : ` ${meaning}`)), h("td", { class: "told", title: [comment, toldOf(writer, text)].filter(Boolean).join("; ") }, h("span", { class: "comment" }, comment), " ", toldOf(writer, text)), h("td", { class: "chip" }, h("span")));
+        h("td", { title: meaning }, h("code", {}, order), unseen(meaning === "" ? "" : ` ${meaning}`)),
+        h(
+            "td",
+            { class: "told", title: [comment, toldOf(writer, text)].filter(Boolean).join("; ") },
+            h("span", { class: "comment" }, comment),
+            " ",
+            toldOf(writer, text)
+        ),
+        h("td", { class: "chip" }, h("span")));
 }
 
 /** Marks the rows of the order under way, in the colour of its phase, and of what comes after it. */
@@ -66,7 +85,10 @@ function scrollTo(list, selectors) {
     const head = list.querySelector("thead").offsetHeight;
     // the edge that hides a cut row is not counted: it goes where the list is scrolled
     const room = Math.floor(list.getBoundingClientRect().height) - head;
-    const endsOf = (some) => [Math.min(...some.map(({ offsetTop }) => offsetTop - head)), Math.max(...some.map(({ offsetTop, offsetHeight }) => offsetTop - head + offsetHeight))];
+    const endsOf = (some) => [
+        Math.min(...some.map(({ offsetTop }) => offsetTop - head)),
+        Math.max(...some.map(({ offsetTop, offsetHeight }) => offsetTop - head + offsetHeight)),
+    ];
     while (rows.length > 1 && endsOf(rows)[1] - endsOf(rows)[0] > room) rows.pop();
     if (rows.length === 0) return;
     const [first, last] = endsOf(rows);
@@ -74,13 +96,16 @@ function scrollTo(list, selectors) {
     const wanted = (first + last - room) / 2;
     // at its very end a list may begin within a row
     const end = list.scrollHeight - head - room;
-    const tops = [...list.querySelectorAll("tbody tr")].map(({ offsetTop }) => offsetTop - head).filter((top) => top <= first && last <= top + room && top <= end);
+    const tops = [...list.querySelectorAll("tbody tr")].map(({ offsetTop }) => offsetTop - head).filter(
+        (top) => top <= first && last <= top + room && top <= end
+    );
     list.scrollTop = tops.reduce((best, top) => (Math.abs(top - wanted) < Math.abs(best - wanted) ? top : best), first);
 }
 
 function arrow({ start, end, height }) {
     return s("svg", { class: "arrow", width: 26, height, "aria-hidden": "true" },
-        s("path", { pathLength: 1, d: `M 24 ${start} C 2 ${start} 2 ${end} 18 ${end}` }), s("polygon", { points: `18,${end - 5} 26,${end} 18,${end + 5}` }));
+        s("path", { pathLength: 1, d: `M 24 ${start} C 2 ${start} 2 ${end} 18 ${end}` }),
+        s("polygon", { points: `18,${end - 5} 26,${end} 18,${end + 5}` }));
 }
 
 /** The part of the page that shows words of the drum. */
@@ -88,7 +113,9 @@ export function makeListing(laboratory, texts, { held, isFast, hasCosts, markNow
     const { text } = texts;
     const rewritten = h("p", { class: "rewritten", role: "status" });
     const body = h("tbody");
-    const heads = ["address", "label", "digits", "order", "change", "under"].map((name) => h("th", { scope: "col" }, ["label", "change", "under"].includes(name) ? unseen(text(name)) : text(name)));
+    const heads = ["address", "label", "digits", "order", "change", "under"].map((name) => (
+        h("th", { scope: "col" }, ["label", "change", "under"].includes(name) ? unseen(text(name)) : text(name))
+    ));
     const table = h("table", { class: "words-table" }, h("thead", {}, h("tr", {}, ...heads)), body);
     const arrows = h("div", { class: "arrows" });
     const list = h("div", { class: "scroll with-arrows" }, arrows, table);
@@ -105,14 +132,24 @@ export function makeListing(laboratory, texts, { held, isFast, hasCosts, markNow
         answer.textContent = lines.join("\n");
         scroll();
     };
-    const place = drafts.held(h("input", { size: 4, maxlength: 4, pattern: "[0-9]{4}", inputmode: "numeric", "aria-label": text("goTo"), value: "0000" }), "address");
+    const place = drafts.held(
+        h("input", { size: 4, maxlength: 4, pattern: "[0-9]{4}", inputmode: "numeric", "aria-label": text("goTo"), value: "0000" }),
+        "address"
+    );
     const showIt = () => {
         shownAt = { address: place.value.padStart(4, "0"), counter: laboratory.panel.counter };
         laboratory.showAt(shownAt.address);
     };
-    const form = h("form", { class: "line", onsubmit: (event) => { event.preventDefault(); showIt(); } }, h("label", {}, `${text("address")} `, place), " ",
+    const form = h(
+        "form",
+        { class: "line", onsubmit: (event) => { event.preventDefault(); showIt(); } },
+        h("label", {}, `${text("address")} `, place),
+        " ",
         button(text("show"), showIt), " ", button(text("startHere"), () => laboratory.command(`go ${place.value}`)), " ",
-        button(text("breakAt"), () => laboratory.command(`break ${place.value}`)), " ", button(text("watchAt"), () => laboratory.command(`watch ${place.value}`)));
+        button(text("breakAt"), () => laboratory.command(`break ${place.value}`)),
+        " ",
+        button(text("watchAt"), () => laboratory.command(`watch ${place.value}`))
+    );
     const takeOut = (number) => {
         // the row goes with its button: where it is the only one, the focus goes on to the field
         if (laboratory.rules.length === 1) place.focus();
@@ -127,7 +164,12 @@ export function makeListing(laboratory, texts, { held, isFast, hasCosts, markNow
         const events = told.map(rewrittenBy);
         const newest = held() === null ? events.at(-1)?.m : undefined;
         refill(body, ...laboratory.words.map((word) => {
-            return rowOf(word.address, shownIn(word, laboratory, { writer: laboratory.writerOf(word.address), stored, isNew: word.address === newest, code: texts.code }));
+            return rowOf(
+                word.address,
+                shownIn(word, laboratory, {
+                    writer: laboratory.writerOf(word.address), stored, isNew: word.address === newest, code: texts.code,
+                })
+            );
         }));
         const event = events.findLast((it) => it !== null);
         tell(rewritten, event === undefined ? "" : text("rewritten", event));
@@ -141,14 +183,21 @@ export function makeListing(laboratory, texts, { held, isFast, hasCosts, markNow
         const seen = [markNow().now, laboratory.panel.counter, last?.stored?.address];
         for (const row of body.children) row.classList.toggle("wanted", seen.includes(row.dataset.address));
         stops();
-        wanted = [...[...asked, ...laboratory.lookedAt].map(rowAt), ".now", ".next", ...(ends === null ? [] : [rowAt(last.stored.address)])];
+        wanted = [
+            ...[...asked, ...laboratory.lookedAt].map(rowAt), ".now", ".next", ...(ends === null ? [] : [rowAt(last.stored.address)]),
+        ];
         scroll();
     };
     const show = () => {
         showWords();
         if (laboratory.words !== askedOf) answer.textContent = "";
         refill(rules, ...laboratory.rules.map((rule, number) => {
-            return h("li", {}, `${number}: ${ruleText(rule, texts)} `, button("×", () => takeOut(number), { "aria-label": text("dropRule", { number }), "data-name": number }));
+            return h(
+                "li",
+                {},
+                `${number}: ${ruleText(rule, texts)} `,
+                button("×", () => takeOut(number), { "aria-label": text("dropRule", { number }), "data-name": number })
+            );
         }));
     };
     const frame = () => markRows(body, markNow(), texts.table);

@@ -1,13 +1,20 @@
-// The map of the drum: its 64 tracks as rows and its 64 sectors as columns, as they pass the head or by their numbers. A word is as the last told orders left it: performed, read, written, or there.
+// The map of the drum: its 64 tracks as rows and its 64 sectors as columns, as they pass the head or by their numbers. A word is as the
+// last told orders left it: performed, read, written, or there.
 import { SECTORS, addressOf, numberOf } from "../addresses.mjs";
 import { positionOf, sectorAt } from "../machine.mjs";
 import { button, h, part, tell } from "./dom.mjs";
 
-/** The room for the numbers of tracks and sectors; the height of a track with words, and of one without; the last orders that are drawn full. */
+/**
+ * The room for the numbers of tracks and sectors; the height of a track with words, and of one without; the last orders that are drawn
+ * full.
+ */
 const [LEFT, TOP, HIGH, LOW, YOUNG] = [22, 14, 16, 2, 9];
 const BLANK = "00000000";
 const KINDS = ["performed", "read", "written"];
-const COLOURS = { performed: "--in-find", read: "--in-seek", written: "--in-write", loaded: "--spots", next: "--in-next", ground: "--well", text: "--ink", chosen: "--numbers" };
+const COLOURS = {
+    performed: "--in-find", read: "--in-seek", written: "--in-write", loaded: "--spots", next: "--in-next", ground: "--well", text: "--ink",
+    chosen: "--numbers",
+};
 
 /** What an account did with words of the drum: the place of its order, and the word that it read or wrote. */
 function usesOf({ at, word, stored }) {
@@ -61,18 +68,27 @@ function makeDrawing(node) {
     const draw = ({ digits, used, next, chosen, passes }) => {
         const pen = node.getContext("2d");
         const ratio = node.width / Math.max(1, at.width);
-        at.rows = rowsOf(Array.from({ length: SECTORS }, (unused, track) => digits.slice(track * SECTORS, (track + 1) * SECTORS).some((word) => word !== BLANK)), at.height - TOP - 2);
+        at.rows = rowsOf(
+            Array.from(
+                { length: SECTORS }, (unused, track) => digits.slice(track * SECTORS, (track + 1) * SECTORS).some((word) => word !== BLANK)
+            ),
+            at.height - TOP - 2
+        );
         pen.setTransform(ratio, 0, 0, ratio, 0, 0);
         pen.clearRect(0, 0, at.width, at.height);
         pen.fillStyle = colours.ground;
         pen.fillRect(LEFT, TOP, SECTORS * at.cell, at.height - TOP - 2);
         for (const [number, word] of digits.entries()) if (word !== BLANK) fill(pen, box(addressOf(number), passes), colours.loaded, 0.75);
         for (const [address, { kind, ago }] of used) fill(pen, box(address, passes), colours[kind], ago < YOUNG ? 1 : 0.6);
-        for (const [address, colour] of [[next, colours.next], [chosen, colours.chosen]]) if (address !== null) frame(pen, box(address, passes), colour);
+        for (const [address, colour] of [[next, colours.next], [chosen, colours.chosen]]) {
+            if (address !== null) frame(pen, box(address, passes), colour);
+        }
         names(pen, at, colours.text, passes);
     };
     const addressAt = (x, y, passes) => {
-        const [column, track] = [Math.floor((x - LEFT) / at.cell), at.rows.findIndex(({ top, height }) => y - TOP >= top && y - TOP < top + height)];
+        const [column, track] = [
+            Math.floor((x - LEFT) / at.cell), at.rows.findIndex(({ top, height }) => y - TOP >= top && y - TOP < top + height),
+        ];
         return column < 0 || column >= SECTORS || track < 0 ? null : addressOf(track * SECTORS + sectorIn(column, passes));
     };
     return { resize, draw, addressAt, headAt: (position) => LEFT + position * at.cell };
@@ -92,7 +108,9 @@ function frame(pen, [x, y, width, height], colour) {
 /** The numbers of every sixteenth sector, and of tracks that are high enough, as far as they do not meet. */
 function names(pen, { rows, cell }, colour, passes) {
     Object.assign(pen, { fillStyle: colour, font: "10px sans-serif", textBaseline: "middle", textAlign: "center" });
-    for (let column = 0; column < SECTORS; column += 8) pen.fillText(String(sectorIn(column, passes)).padStart(2, "0"), LEFT + (column + 0.5) * cell, TOP / 2);
+    for (let column = 0; column < SECTORS; column += 8) {
+        pen.fillText(String(sectorIn(column, passes)).padStart(2, "0"), LEFT + (column + 0.5) * cell, TOP / 2);
+    }
     let last = -Infinity;
     pen.textAlign = "left";
     for (const [track, { top, height, has }] of rows.entries()) {
@@ -127,7 +145,13 @@ function makeWays({ text }, changed) {
         ways.forEach((way, at) => way.setAttribute("aria-pressed", String(at === place)));
         changed(place === 0);
     }, { "aria-pressed": String(place === 0), "data-name": name }));
-    const legend = h("p", { class: "map-key" }, ...[...KINDS, "loaded"].flatMap((kind) => [h("span", { class: `map-dot ${kind}`, "aria-hidden": "true" }), text(`map_${kind}`), " "]));
+    const legend = h(
+        "p",
+        { class: "map-key" },
+        ...[...KINDS, "loaded"].flatMap((kind) => (
+            [h("span", { class: `map-dot ${kind}`, "aria-hidden": "true" }), text(`map_${kind}`), " "]
+        ))
+    );
     return h("div", { class: "line map-ways" }, legend, ...ways);
 }
 
@@ -135,17 +159,31 @@ function makeWays({ text }, changed) {
 function makeActions(laboratory, { text }, chosen, costsAsked) {
     const answer = h("p", { class: "map-answer", role: "status" });
     const who = async () => { answer.textContent = (await laboratory.why(chosen()) ?? []).join("\n"); };
-    const node = h("div", { class: "line" }, button(text("watchAt"), () => laboratory.command(`watch ${chosen()}`), { "data-name": "map-watch" }), button(text("mapWho"), who, { "data-name": "map-who" }), button(text("tab_costs"), () => costsAsked(chosen()), { "data-name": "map-costs" }));
+    const node = h(
+        "div",
+        { class: "line" },
+        button(text("watchAt"), () => laboratory.command(`watch ${chosen()}`), { "data-name": "map-watch" }),
+        button(text("mapWho"), who, { "data-name": "map-who" }),
+        button(text("tab_costs"), () => costsAsked(chosen()), { "data-name": "map-costs" })
+    );
     const show = () => { for (const control of node.children) control.disabled = chosen() === null; };
     return { node, answer, show };
 }
 
-/** The canvas with the line of the head, in an element that is reached by the tab key and named by what is told of the word that is chosen. */
+/**
+ * The canvas with the line of the head, in an element that is reached by the tab key and named by what is told of the word that is chosen.
+ */
 function makeGrid({ text }, shown, choose) {
-    const [canvas, line, told] = [h("canvas", { class: "drum-map", "aria-hidden": "true" }), h("div", { class: "map-head", "aria-hidden": "true" }), h("p", { class: "map-told", role: "gridcell" })];
+    const [canvas, line, told] = [
+        h("canvas", { class: "drum-map", "aria-hidden": "true" }),
+        h("div", { class: "map-head", "aria-hidden": "true" }),
+        h("p", { class: "map-told", role: "gridcell" }),
+    ];
     const drawing = makeDrawing(canvas);
     const ground = h("div", { class: "map-ground" }, canvas, line);
-    const node = h("div", { class: "map", role: "grid", tabindex: "0", "aria-label": text("mapName") }, ground, h("div", { role: "row" }, told));
+    const node = h(
+        "div", { class: "map", role: "grid", tabindex: "0", "aria-label": text("mapName") }, ground, h("div", { role: "row" }, told)
+    );
     canvas.addEventListener("click", ({ offsetX, offsetY }) => choose(drawing.addressAt(offsetX, offsetY, shown.passes)));
     node.addEventListener("keydown", (event) => {
         const address = event.target === node ? arrived(event.key, shown.chosen ?? shown.next, shown.passes) : null;

@@ -1,4 +1,5 @@
-// The menu at the head of the page: what begins, opens and keeps a work, the examples, and what is set for the whole page. It is seen when it is wanted.
+// The menu at the head of the page: what begins, opens and keeps a work, the examples, and what is set for the whole page. It is seen when
+// it is wanted.
 import { button, h } from "./dom.mjs";
 
 /** Whether it is open: it stays so when the page is laid anew, in another language. */
@@ -9,7 +10,11 @@ const controlsIn = (list) => [...list.querySelectorAll("button, select")].filter
 
 /** The menu of these groups of controls: its button, and its list. One of the controls shuts it, but for those whose names stay open. */
 export function makeMenu({ text }, groups, staysOpen) {
-    const list = h("div", { class: "choices", id: "choices", role: "group", "aria-label": text("menu") }, ...groups.map((group) => h("div", { class: "menu-group" }, ...group)));
+    const list = h(
+        "div",
+        { class: "choices", id: "choices", role: "group", "aria-label": text("menu") },
+        ...groups.map((group) => h("div", { class: "menu-group" }, ...group))
+    );
     const control = button("", () => show(!isOpen), { class: "menu", "aria-controls": "choices" });
     control.append(text("menu"), h("span", { "aria-hidden": "true" }, " ▾"));
     const show = (wanted) => {
@@ -28,14 +33,21 @@ export function makeMenu({ text }, groups, staysOpen) {
         const at = all.indexOf(event.target);
         const to = { ArrowDown: at + 1, ArrowUp: Math.max(0, at - 1), Home: 0, End: all.length - 1 }[event.key];
         if (event.key === "Escape" && isOpen) { event.preventDefault(); shut(); control.focus(); }
-        else if (to !== undefined && isOpen && event.target.tagName !== "SELECT") { event.preventDefault(); all[Math.min(to, all.length - 1)]?.focus(); }
+        else if (to !== undefined && isOpen && event.target.tagName !== "SELECT") {
+            event.preventDefault();
+            all[Math.min(to, all.length - 1)]?.focus();
+        }
     };
     for (const node of [control, list]) {
         node.addEventListener("focusout", ({ relatedTarget }) => { if (relatedTarget !== null && !isWithin(relatedTarget)) show(false); });
         node.addEventListener("keydown", onKey);
     }
     // before the control does what it does
-    list.addEventListener("click", ({ target }) => { const chosen = target.closest("button"); if (chosen !== null && !staysOpen.includes(chosen.id)) shut(); }, { capture: true });
+    list.addEventListener(
+        "click",
+        ({ target }) => { const chosen = target.closest("button"); if (chosen !== null && !staysOpen.includes(chosen.id)) shut(); },
+        { capture: true }
+    );
     list.addEventListener("change", ({ target }) => { if (!staysOpen.includes(target.id)) shut(); });
     show(isOpen);
     return { control, list, shut };

@@ -1,4 +1,5 @@
-// What the reader should know: a refusal or a word of the page's own, and what can be done about it; the source that is open; and the lines of
+// What the reader should know: a refusal or a word of the page's own, and what can be done about it; the source that is open; and the lines
+// of
 // laboratories that were lost.
 import { LESSONS } from "../lesson_steps.mjs";
 import { counted } from "../words.mjs";
@@ -12,7 +13,10 @@ export function wayText({ way: { kind, mode } }, { text, table }, isKiosk) {
     return text({ go: "wayGo", start: "wayStart", keys: "wayKeys", mode: "wayMode" }[kind], { mode: table.modes[mode] ?? "" });
 }
 
-/** The name of the sentence for a source that was run with its words elsewhere. The loader may end elsewhere as well, and the wait for the first order is then another one. */
+/**
+ * The name of the sentence for a source that was run with its words elsewhere. The loader may end elsewhere as well, and the wait for the
+ * first order is then another one.
+ */
 function movedName({ took, foretold, waited: { now, before } }) {
     if (took === foretold) return "movedAsForetold";
     return took - now === foretold - before ? "movedButFirst" : "movedOtherwise";
@@ -23,12 +27,19 @@ function noticeText(notice, laboratory, texts, isKiosk) {
     const { kind, number, detail, line, reason, count, most } = notice;
     const { text, table, code } = texts;
     const way = () => wayText(laboratory, texts, isKiosk);
-    const plain = ["before", "stopped", "noMemory", "sourceIsOpen", "sourceTooLong", "notLoaded", "noSourceToRun", "scriptDone", "noneBehind", "beforeKept", "notKept", "notWaiting"];
+    const plain = [
+        "before", "stopped", "noMemory", "sourceIsOpen", "sourceTooLong", "notLoaded", "noSourceToRun", "scriptDone", "noneBehind",
+        "beforeKept", "notKept", "notWaiting",
+    ];
     if (plain.includes(kind)) return text(kind);
     if (kind === "usedUp") return text(isKiosk ? "kioskUsedUp" : "usedUp");
     if (kind === "atRest") return `${text("atRest")} ${way()}`;
     if (kind === "dead") return `${text("dead", { name: detail })} ${way()}`;
-    if (kind === "rule") return [text("stoppedByRule", { number, rule: ruleText(notice.rule, texts) }), notice.isOfScript ? text("ruleOfScript") : ""].join(" ");
+    if (kind === "rule") {
+        return [
+            text("stoppedByRule", { number, rule: ruleText(notice.rule, texts) }), notice.isOfScript ? text("ruleOfScript") : "",
+        ].join(" ");
+    }
     if (kind === "printedMuch") return text("printedMuch", { count: counted(count, code) });
     if (kind === "tooMany") return text("tooMany", { line: line.trim(), most: counted(most, code) });
     if (kind === "broken") return text("broken", { detail });
@@ -38,7 +49,13 @@ function noticeText(notice, laboratory, texts, isKiosk) {
     if (kind === "noLesson") return text("wrongLesson", { name: detail, lessons: LESSONS.map(({ name }) => name).join(", ") });
     if (kind === "noTask") return text("wrongTask", { name: detail, tasks: notice.tasks.join(", ") });
     if (kind === "notMoved") return text("notMoved", { why: text(`notMoved_${notice.wrong}`, notice) });
-    if (kind === "moved") return text(movedName(notice), { words: notice.words.map((it) => text("wordMoved", it)).join(" "), took: counted(notice.took, code), foretold: counted(notice.foretold, code) });
+    if (kind === "moved") {
+        return text(movedName(notice), {
+            words: notice.words.map((it) => text("wordMoved", it)).join(" "),
+            took: counted(notice.took, code),
+            foretold: counted(notice.foretold, code),
+        });
+    }
     if (kind === "wrongSent") return table.wrongSent[notice.wrong];
     if (kind === "sentLong") return text("sentLong", { most: counted(most, code) });
     if (kind === "noGame") return text("wrongGame", { name: detail });
@@ -69,7 +86,9 @@ function buttonsOf({ kind, number, lines, work }, laboratory, { text }, isKiosk,
 }
 
 /** The controls after a text, all in one line. */
-export const waysOut = (...controls) => (controls.length === 0 ? [] : [" ", h("span", { class: "ways-out" }, ...controls.flatMap((control) => [control, " "]).slice(0, -1))]);
+export const waysOut = (...controls) => (
+    controls.length === 0 ? [] : [" ", h("span", { class: "ways-out" }, ...controls.flatMap((control) => [control, " "]).slice(0, -1))]
+);
 
 /** Shows the notice; it is made anew only where it is another one, so that the focus stays. */
 function makeNotice(laboratory, texts, isKiosk, actions) {
@@ -89,7 +108,9 @@ function makeNotice(laboratory, texts, isKiosk, actions) {
 function makeOpenSource(laboratory, { text }) {
     const place = document.getElementById("open-source");
     const told = h("span");
-    const end = passing(text("endSource"), () => laboratory.say("."), () => document.querySelector(".lines input") ?? document.getElementById("kiosk-1"));
+    const end = passing(
+        text("endSource"), () => laboratory.say("."), () => document.querySelector(".lines input") ?? document.getElementById("kiosk-1")
+    );
     place.replaceChildren(told, ...waysOut(end));
     return () => {
         const { openSource } = laboratory;
@@ -128,6 +149,8 @@ export function placeNotices(slot) {
 
 /** What is above the page. `actions` has `run`, `save`, `anew`, `goBack` and `linkTo`, which makes a link under which lines are saved. */
 export function makeNotices(laboratory, texts, isKiosk, actions) {
-    const parts = [makeNotice(laboratory, texts, isKiosk, actions), makeOpenSource(laboratory, texts), makeLost(laboratory, texts, actions.linkTo)];
+    const parts = [
+        makeNotice(laboratory, texts, isKiosk, actions), makeOpenSource(laboratory, texts), makeLost(laboratory, texts, actions.linkTo),
+    ];
     return { show: () => parts.forEach((part) => part()) };
 }

@@ -11,12 +11,16 @@ export const turned = (degrees) => (((degrees % 360) + 540) % 360) - 180;
 /** How many degrees two pins have to be apart that lie at about an angle. */
 function roomFor(angle, one, other, distanceOf) {
     const [width, height] = [(one.width + other.width) / 2 + 6, (one.height + other.height) / 2 + 6];
-    const distance = Math.min(width / Math.max(0.01, Math.abs(Math.cos(inRadians(angle)))), height / Math.max(0.01, Math.abs(Math.sin(inRadians(angle)))));
+    const distance = Math.min(
+        width / Math.max(0.01, Math.abs(Math.cos(inRadians(angle)))), height / Math.max(0.01, Math.abs(Math.sin(inRadians(angle))))
+    );
     return (distance / distanceOf(angle, one)) * (180 / Math.PI);
 }
 
-/** The angles of pins as near to their sectors' as can be: none lies upon another one, and none upon the head, but on its sector's side of it. `distanceOf` is how far from the centre a pin lies at
- * an angle. */
+/**
+ * The angles of pins as near to their sectors' as can be: none lies upon another one, and none upon the head, but on its sector's side of
+ * it. `distanceOf` is how far from the centre a pin lies at an angle.
+ */
 export function apart(pins, distanceOf) {
     const set = pins.map((pin) => ({ ...pin, own: turned(pin.angle), angle: turned(pin.angle) })).sort((one, other) => one.own - other.own);
     /** Sets a pin beside the head. Whether it lay upon it. */
@@ -32,7 +36,9 @@ export function apart(pins, distanceOf) {
         for (const [place, pin] of set.entries()) {
             const next = set[(place + 1) % set.length];
             const between = place + 1 < set.length ? next.angle - pin.angle : next.angle + 360 - pin.angle;
-            const missing = next === pin ? 0 : Math.max(roomFor(pin.angle, pin, next, distanceOf), roomFor(next.angle, pin, next, distanceOf)) - between;
+            const missing = next === pin
+                ? 0
+                : Math.max(roomFor(pin.angle, pin, next, distanceOf), roomFor(next.angle, pin, next, distanceOf)) - between;
             if (missing <= 0.01) continue;
             isMoved = true;
             pin.angle -= missing / 2;

@@ -1,4 +1,5 @@
-// Make it faster: a game of two minutes with the drum. A loop goes round, and its words are carried to sectors where the machine waits less. What a placing costs are sums of the monitor's
+// Make it faster: a game of two minutes with the drum. A loop goes round, and its words are carried to sectors where the machine waits
+// less. What a placing costs are sums of the monitor's
 // numbers; the line on the drum and the bars are drawn only where their sum is that.
 import { SECTORS, inTwoDigits, sectorOf } from "../addresses.mjs";
 import { positionOf, sectorAt } from "../machine.mjs";
@@ -10,20 +11,36 @@ import { PEN, makeKey, makePicture, passed } from "./drum.mjs";
 import { makeGrips } from "./hand.mjs";
 import { makeBar } from "./story.mjs";
 
-/** How many word times of a round that is watched pass in a second; without motion, how long each order is seen; and how far the line of a round reaches inward. */
+/**
+ * How many word times of a round that is watched pass in a second; without motion, how long each order is seen; and how far the line of a
+ * round reaches inward.
+ */
 const [SPEED, PICTURE_MILLISECONDS, LINE] = [64, 1200, 100];
 
 /** A number of word times saved, in words. */
-export const savedText = (saved, texts) => (saved === 0 ? texts.text("asAtFirst") : texts.text(saved > 0 ? "turnsLess" : "turnsMore", { turns: turnsOf(Math.abs(saved), texts) }));
+export const savedText = (saved, texts) => (
+    saved === 0 ? texts.text("asAtFirst") : texts.text(saved > 0 ? "turnsLess" : "turnsMore", { turns: turnsOf(Math.abs(saved), texts) })
+);
 
 /** What the words at the top say. */
 function leadOf(game, texts) {
     const { text, code } = texts;
     const { placing, picked } = game;
     const saved = placing.saved(picked);
-    const values = { word: game.nameOf(picked), turns: turnsOf(Math.abs(saved), texts), from: counted(placing.took, code), to: counted(placing.times, code), round: turnsOf(timesOf(game.round.map(({ account }) => account)), texts) };
+    const values = {
+        word: game.nameOf(picked),
+        turns: turnsOf(Math.abs(saved), texts),
+        from: counted(placing.took, code),
+        to: counted(placing.times, code),
+        round: turnsOf(timesOf(game.round.map(({ account }) => account)), texts),
+    };
     if (game.isShown) return text("fasterShown", values);
-    if (game.isWon) return text(placing.words.length === 1 ? "fasterWonOne" : "fasterWon", { ...values, turns: turnsOf(placing.took - placing.times, texts), count: placing.words.length });
+    if (game.isWon) {
+        return text(
+            placing.words.length === 1 ? "fasterWonOne" : "fasterWon",
+            { ...values, turns: turnsOf(placing.took - placing.times, texts), count: placing.words.length }
+        );
+    }
     if (game.isWhy) return text("fasterWhy", values);
     if (placing.moved.length === 0) return text("fasterBegin", values);
     if (saved > 0) return text(placing.isBest(picked) ? "fasterGood" : "fasterSome", values);
@@ -32,16 +49,33 @@ function leadOf(game, texts) {
 }
 
 /** By how much a word misses an order. */
-const missText = (miss, { text }) => text(miss.isEarly ? "missEarly" : "missLate", { ...miss, places: text(miss.places === 1 ? "onePlace" : "manyPlaces", { n: miss.places }) });
+const missText = (miss, { text }) => text(
+    miss.isEarly ? "missEarly" : "missLate", { ...miss, places: text(miss.places === 1 ? "onePlace" : "manyPlaces", { n: miss.places }) }
+);
 
-/** All that the words at the top may say of a program, with its longest name and numbers: they take as much room as the longest of these, in any font, so nothing moves when they change. */
+/**
+ * All that the words at the top may say of a program, with its longest name and numbers: they take as much room as the longest of these, in
+ * any font, so nothing moves when they change.
+ */
 function longestLeads(game, texts) {
     const { text, code } = texts;
     const { took, words: { length: count } } = game.placing;
     const [word] = game.program.words.map((address) => game.nameOf(address)).sort((one, other) => other.length - one.length);
-    const values = { word, count, turns: turnsOf(took, texts), from: counted(took, code), to: counted(took, code), round: turnsOf(timesOf(game.round.map(({ account }) => account)), texts) };
+    const values = {
+        word,
+        count,
+        turns: turnsOf(took, texts),
+        from: counted(took, code),
+        to: counted(took, code),
+        round: turnsOf(timesOf(game.round.map(({ account }) => account)), texts),
+    };
     const misses = [true, false].map((isEarly) => missText({ isEarly, at: "0000", letter: "m", places: SECTORS }, texts));
-    return [...["fasterBegin", "fasterGood", "fasterSome", "fasterWhy", "fasterShown", count === 1 ? "fasterWonOne" : "fasterWon"].map((name) => text(name, values)), ...misses.map((miss) => `${text("fasterWorse", values)} ${miss}`)];
+    return [
+        ...[
+            "fasterBegin", "fasterGood", "fasterSome", "fasterWhy", "fasterShown", count === 1 ? "fasterWonOne" : "fasterWon",
+        ].map((name) => text(name, values)),
+        ...misses.map((miss) => `${text("fasterWorse", values)} ${miss}`),
+    ];
 }
 
 /** The number that counts, and how far it is from the least. */
@@ -77,7 +111,11 @@ function makeWords(game, texts, focus) {
         });
         node.replaceChildren(...rows.map(({ control }) => control));
     };
-    const usersOf = (address) => game.round.map(({ account }) => account).filter(({ word }) => word === address).map(({ at, order }) => `${order[0]} ${texts.text("atPlace", { at })}`).join(", ");
+    const usersOf = (address) => game.round
+        .map(({ account }) => account)
+        .filter(({ word }) => word === address)
+        .map(({ at, order }) => `${order[0]} ${texts.text("atPlace", { at })}`)
+        .join(", ");
     const show = () => {
         const { placing, picked } = game;
         for (const { address, control, users, where, saved } of rows) {
@@ -101,11 +139,24 @@ function makeRound(game, { text }) {
         const bar = makeBar(account);
         bar.show(Infinity);
         const name = word === null ? account.order : `${account.order.slice(0, account.order.indexOf(" "))} ${game.nameOf(word)}`;
-        return h("tr", { class: word === game.picked ? "uses" : null, "data-at": account.at }, h("th", { scope: "row" }, account.at), h("td", {}, name),
-            h("td", {}, h("div", { class: "account-bar", style: `--times: ${account.sum}; --most: ${most}`, "aria-hidden": "true" }, ...bar.nodes)), h("td", { class: "number" }, String(account.sum)), h("td", { class: account.sum > before ? "number loss" : "number" }, signed(account.sum - before)));
+        return h(
+            "tr",
+            { class: word === game.picked ? "uses" : null, "data-at": account.at },
+            h("th", { scope: "row" }, account.at),
+            h("td", {}, name),
+            h(
+                "td",
+                {},
+                h("div", { class: "account-bar", style: `--times: ${account.sum}; --most: ${most}`, "aria-hidden": "true" }, ...bar.nodes)
+            ),
+            h("td", { class: "number" }, String(account.sum)),
+            h("td", { class: account.sum > before ? "number loss" : "number" }, signed(account.sum - before))
+        );
     };
     /** How many rows a narrow window shows of a word: those of its orders, and of what comes after each. */
-    const rowsOf = (address) => game.round.filter((unused, place) => [place, place - 1].some((at) => game.round[at]?.account.word === address)).length;
+    const rowsOf = (address) => (
+        game.round.filter((unused, place) => [place, place - 1].some((at) => game.round[at]?.account.word === address)).length
+    );
     const show = () => {
         const { round, program: { words } } = game;
         const most = Math.max(130, ...round.map(({ account, before }) => Math.max(account.sum, before)));
@@ -130,11 +181,31 @@ function makeGameDrum(game, texts, hands) {
         const position = Number(from % BigInt(SECTORS)) + offset;
         // as many turns as the round has at first fit in: what is saved makes the line shorter, and nothing else
         const pitch = Math.min(PEN.pitch, (LINE * SECTORS) / Math.max(SECTORS, first));
-        const shape = { radius: PEN.radius, pitch, turns: 1 + length / SECTORS, waits: Math.min(PEN.waits, 0.4 * pitch), works: Math.min(PEN.works, 0.8 * pitch), faintest: 1 };
+        const shape = {
+            radius: PEN.radius, pitch, turns: 1 + length / SECTORS, waits: Math.min(PEN.waits, 0.4 * pitch),
+            works: Math.min(PEN.works, 0.8 * pitch), faintest: 1,
+        };
         ring.turn(position % SECTORS);
         trail.draw(passed(round, { clock: from, offset }, shape), false, shape);
-        still.show({ next: null, operand: null, left: 0, phase: "round", count: round.length === 0 ? "–" : counted(length / SECTORS, texts.code), below: texts.text(length === SECTORS ? "turnUnit" : "turnsUnit"), clock: null, isReading: false }, position);
-        const angles = grips.show(position, box.offsetWidth / 800, (address) => game.placing.saved(address) > 0 && game.placing.isBest(address), (box.parentElement.clientWidth - box.offsetWidth) / 2);
+        still.show(
+            {
+                next: null,
+                operand: null,
+                left: 0,
+                phase: "round",
+                count: round.length === 0 ? "–" : counted(length / SECTORS, texts.code),
+                below: texts.text(length === SECTORS ? "turnUnit" : "turnsUnit"),
+                clock: null,
+                isReading: false,
+            },
+            position
+        );
+        const angles = grips.show(
+            position,
+            box.offsetWidth / 800,
+            (address) => game.placing.saved(address) > 0 && game.placing.isBest(address),
+            (box.parentElement.clientWidth - box.offsetWidth) / 2
+        );
         const isFree = (side) => !angles.some((angle) => side * angle > 8 && side * angle < 62);
         box.dataset.arrow = isFree(-1) ? "left" : isFree(1) ? "right" : "away";
         return round.findLast(({ clock }) => Number(clock - from) <= offset)?.at ?? null;
@@ -150,20 +221,34 @@ function makeGameDrum(game, texts, hands) {
         box.setAttribute("aria-label", texts.text("gameDrum"));
         frame();
     };
-    return { node: box, put: () => grips.put(game.program.words.map((address) => ({ address, name: game.nameOf(address) }))), show, frame, focus: grips.focus };
+    return {
+        node: box,
+        put: () => grips.put(game.program.words.map((address) => ({ address, name: game.nameOf(address) }))),
+        show,
+        frame,
+        focus: grips.focus,
+    };
 }
 
 /** The sectors that were tried for the picked word, each with its share of what the dearest costs. */
 function triesOf({ placing, picked, tried }) {
     const costs = [...tried.get(picked) ?? []].map((sector) => ({ sector, cost: -placing.savedAt(picked, sector) }));
     const [least, most] = [-placing.words.find(({ address }) => address === picked).saved, Math.max(0, ...costs.map(({ cost }) => cost))];
-    return costs.map(({ sector, cost }) => ({ sector, share: 0.2 + (0.8 * (cost - least)) / Math.max(1, most - least), isBest: cost === least }));
+    return costs.map(({ sector, cost }) => (
+        { sector, share: 0.2 + (0.8 * (cost - least)) / Math.max(1, most - least), isBest: cost === least }
+    ));
 }
 
 /** The seconds that are left, as a ring. They begin with the first move, and nothing is lost when they are over. */
 function makeTimer({ text }, seconds, over) {
-    const [gone, told] = [s("circle", { class: "gone", cx: 30, cy: 30, r: 25, pathLength: 1, transform: "rotate(-90 30 30)" }), s("text", { x: 30, y: 31 })];
-    const node = h("div", { class: "seconds-left", role: "timer" }, s("svg", { viewBox: "0 0 60 60", "aria-hidden": "true" }, s("circle", { cx: 30, cy: 30, r: 25 }), gone, told));
+    const [gone, told] = [
+        s("circle", { class: "gone", cx: 30, cy: 30, r: 25, pathLength: 1, transform: "rotate(-90 30 30)" }), s("text", { x: 30, y: 31 }),
+    ];
+    const node = h(
+        "div",
+        { class: "seconds-left", role: "timer" },
+        s("svg", { viewBox: "0 0 60 60", "aria-hidden": "true" }, s("circle", { cx: 30, cy: 30, r: 25 }), gone, told)
+    );
     let [ends, timer] = [null, null];
     const leftNow = () => (ends === null ? seconds : Math.max(0, Math.ceil((ends - performance.now()) / 1000)));
     const show = () => {
@@ -193,7 +278,9 @@ function play(game, isStill, frame, ended) {
     const [clock, length] = [round[0].account.clock, timesOf(round.map(({ account }) => account))];
     const ends = round.map(({ account }) => Number(account.clock - clock) + account.sum);
     const began = performance.now();
-    const offsetAt = (passed) => (isStill() ? [0, ...ends][Math.floor(passed / PICTURE_MILLISECONDS)] ?? Infinity : (passed * SPEED) / 1000);
+    const offsetAt = (passed) => (
+        isStill() ? [0, ...ends][Math.floor(passed / PICTURE_MILLISECONDS)] ?? Infinity : (passed * SPEED) / 1000
+    );
     let next = null;
     const tick = () => {
         game.watched = offsetAt(performance.now() - began);
@@ -206,11 +293,19 @@ function play(game, isStill, frame, ended) {
     return () => cancelAnimationFrame(next);
 }
 
-/** The buttons below. Where the time is over the last one shows the best placing; where that is reached or shown, it leads to another program. */
+/**
+ * The buttons below. Where the time is over the last one shows the best placing; where that is reached or shown, it leads to another
+ * program.
+ */
 function makeFoot(game, { text }, timer, actions) {
     // they have their names before there is something to do
-    const [why, back, watch] = [["why", "showWhy"], ["back", "asItWas"], ["watch", "watchRound"]].map(([name, said]) => guarded(text(said), { id: `faster-${name}`, "aria-disabled": "true" }, actions[name]));
-    const [best, another] = [button(text("showBest"), () => { actions.showBest(); back.focus(); }, { id: "faster-best" }), button(text("anotherProgram"), actions.another, { id: "faster-another", class: "primary" })];
+    const [why, back, watch] = [["why", "showWhy"], ["back", "asItWas"], ["watch", "watchRound"]].map(
+        ([name, said]) => guarded(text(said), { id: `faster-${name}`, "aria-disabled": "true" }, actions[name])
+    );
+    const [best, another] = [
+        button(text("showBest"), () => { actions.showBest(); back.focus(); }, { id: "faster-best" }),
+        button(text("anotherProgram"), actions.another, { id: "faster-another", class: "primary" }),
+    ];
     const last = h("div", { class: "last" });
     const show = () => {
         const { placing, isShown, isWon, isWhy, watched } = game;
@@ -243,8 +338,10 @@ export class PlacingGameView {
     #orders;
     #views;
 
-    /** `ask` runs a program in a laboratory of its own and gives what it took, or null; `kept` keeps where the player's words are; `seconds` is how long the best is held back, and `others` gives
-     * the buttons that lead elsewhere from a game. */
+    /**
+     * `ask` runs a program in a laboratory of its own and gives what it took, or null; `kept` keeps where the player's words are; `seconds`
+     * is how long the best is held back, and `others` gives the buttons that lead elsewhere from a game.
+     */
     constructor(texts, settings) {
         [this.#texts, this.#settings] = [texts, settings];
         const game = this.#game;
@@ -254,9 +351,14 @@ export class PlacingGameView {
         this.#orders = makeRound(game, texts);
         const [score, foot] = [makeScore(texts), makeFoot(game, texts, this.#timer, this.#actions())];
         this.#views = [{ show: () => score.show(game.placing) }, this.#words, this.#orders, this.#drum, foot];
-        const cabinet = h("div", { class: "cabinet" }, h("div", { class: "stand" }, this.#drum.node), makeKey((phase) => texts.text(`colour_${phase}`)));
+        const cabinet = h(
+            "div", { class: "cabinet" }, h("div", { class: "stand" }, this.#drum.node), makeKey((phase) => texts.text(`colour_${phase}`))
+        );
         this.node = h("section", { class: "faster", "aria-label": texts.text("faster"), "aria-busy": "true" }, cabinet,
-            h("div", { class: "game" }, this.#elsewhere, this.#leads, this.#said, score.node, this.#words.node, this.#orders.node, foot.node));
+            h(
+                "div", { class: "game" }, this.#elsewhere, this.#leads, this.#said, score.node, this.#words.node, this.#orders.node,
+                foot.node
+            ));
     }
 
     /** Begins a game with the program that was played last in it, unless it is there already. */
@@ -284,7 +386,10 @@ export class PlacingGameView {
         return this.begin("faster");
     }
 
-    /** A press of one of those buttons: a place back, a place on, the next word, or the end, where the best is shown first. Whether the game goes on. */
+    /**
+     * A press of one of those buttons: a place back, a place on, the next word, or the end, where the best is shown first. Whether the game
+     * goes on.
+     */
     press(number) {
         const { placing, picked, program } = this.#game;
         if (placing === null) return number < 4;
@@ -313,8 +418,15 @@ export class PlacingGameView {
         const game = this.#game;
         const move = (address, sector) => { this.stop(); game.move(address, sector); this.#timer.start(); this.#show(); };
         return {
-            move, sectorOf: (address) => game.placing.sectorOf(address), back: (address) => move(address, sectorOf(address)), drop: () => this.#told(),
-            says: (address) => text("gripSays", { sector: inTwoDigits(game.placing.sectorOf(address)), times: counted(game.placing.times, code), saved: savedText(game.placing.saved(address), this.#texts) }),
+            move,
+            sectorOf: (address) => game.placing.sectorOf(address),
+            back: (address) => move(address, sectorOf(address)),
+            drop: () => this.#told(),
+            says: (address) => text("gripSays", {
+                sector: inTwoDigits(game.placing.sectorOf(address)),
+                times: counted(game.placing.times, code),
+                saved: savedText(game.placing.saved(address), this.#texts),
+            }),
             pick: (address) => { if (address !== game.picked) { game.picked = address; this.#show(); } },
         };
     }
@@ -323,7 +435,13 @@ export class PlacingGameView {
     #actions() {
         const game = this.#game;
         const changed = (action) => () => { this.stop(); action(); this.#show(); this.#told(); };
-        return { why: changed(() => { game.isWhy = !game.isWhy; }), back: changed(() => (game.isShown ? game.showBest() : game.reset())), watch: () => this.#watch(), showBest: changed(() => game.showBest()), another: () => this.#another() };
+        return {
+            why: changed(() => { game.isWhy = !game.isWhy; }),
+            back: changed(() => (game.isShown ? game.showBest() : game.reset())),
+            watch: () => this.#watch(),
+            showBest: changed(() => game.showBest()),
+            another: () => this.#another(),
+        };
     }
 
     /** Says aloud what is told, and keeps where the words are. */
@@ -342,7 +460,11 @@ export class PlacingGameView {
     #watch() {
         const isOn = this.#game.watched !== null;
         this.stop();
-        if (!isOn && this.#game.round.length > 0) this.#endWatching = play(this.#game, this.#settings.isStill, () => this.#orders.mark(this.#drum.frame()), () => { this.stop(); this.#show(); });
+        if (!isOn && this.#game.round.length > 0) {
+            this.#endWatching = play(
+                this.#game, this.#settings.isStill, () => this.#orders.mark(this.#drum.frame()), () => { this.stop(); this.#show(); }
+            );
+        }
         this.#show();
     }
 
@@ -364,7 +486,9 @@ export class PlacingGameView {
         this.#game.open(program, told);
         this.#game.kept = this.#settings.kept.of()?.[program.name] ?? this.#game.kept;
         this.#timer.reset();
-        this.#leads.replaceChildren(this.#lead, ...longestLeads(this.#game, this.#texts).map((words) => h("p", { class: "room", "aria-hidden": "true" }, words)));
+        this.#leads.replaceChildren(
+            this.#lead, ...longestLeads(this.#game, this.#texts).map((words) => h("p", { class: "room", "aria-hidden": "true" }, words))
+        );
         for (const view of [this.#drum, this.#words]) view.put();
         this.#show();
         this.node.setAttribute("aria-busy", "false");

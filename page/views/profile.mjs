@@ -5,8 +5,13 @@ import { button, h, part } from "./dom.mjs";
 /** A line of a profile with its bar, drawn against the greatest of its group. */
 function bar({ name, times, percent }, most, label, kind, code) {
     const width = most === 0 ? 0 : (100 * times) / most;
-    return h("div", { class: "bar-line" }, h("span", { class: "bar-name" }, label), h("span", { class: `bar ${kind}`, style: `width: ${width.toFixed(1)}%`, "data-name": name }),
-        h("span", { class: "bar-number" }, `${counted(times, code)}  ${percent} %`));
+    return h(
+        "div",
+        { class: "bar-line" },
+        h("span", { class: "bar-name" }, label),
+        h("span", { class: `bar ${kind}`, style: `width: ${width.toFixed(1)}%`, "data-name": name }),
+        h("span", { class: "bar-number" }, `${counted(times, code)}  ${percent} %`)
+    );
 }
 
 const PHASES = ["find", "take", "seek", "act", "none"];
@@ -25,5 +30,10 @@ export function makeProfile(laboratory, { text, table, code }, drafts) {
             h("h3", {}, text("dearest")), ...profile.places.map((line) => bar(line, most(profile.places), line.name, "place", code)));
     };
     const start = button(text("makeProfile"), () => laboratory.addUp(Math.max(1, Math.floor(Number(limit.value)))));
-    return { node: part("profile", text("profile"), h("div", { class: "line" }, h("label", {}, text("profileOrders"), " ", limit), start), place), show };
+    return {
+        node: part(
+            "profile", text("profile"), h("div", { class: "line" }, h("label", {}, text("profileOrders"), " ", limit), start), place
+        ),
+        show,
+    };
 }

@@ -1,4 +1,5 @@
-// The kiosk with an exhibit that runs a program: what is told, the drum, the typewriter, at which pace all goes and what the machine would have taken, and what the scene has beside the paper: what was torn off, the bits of
+// The kiosk with an exhibit that runs a program: what is told, the drum, the typewriter, at which pace all goes and what the machine would
+// have taken, and what the scene has beside the paper: what was torn off, the bits of
 // a word, or the orders at a place.
 import { PACES, WORD_TIME } from "../drive.mjs";
 import { FIELDS, LETTERS } from "../machine.mjs";
@@ -17,7 +18,9 @@ const SHARE = 0.65;
 export function timeOf(seconds, { text }) {
     if (seconds < 60) return text("timeSeconds", { count: Math.floor(seconds) });
     const minutes = Math.floor(seconds / 60);
-    return minutes < 60 ? text("timeMinutes", { count: minutes }) : text("timeHours", { hours: Math.floor(minutes / 60), count: minutes % 60 });
+    return minutes < 60
+        ? text("timeMinutes", { count: minutes })
+        : text("timeHours", { hours: Math.floor(minutes / 60), count: minutes % 60 });
 }
 
 /** A pace as a ratio, and a sentence for it. `slow` is that of the page's drive. */
@@ -27,14 +30,28 @@ export function ratioOf(pace, { text, code }) {
     const times = pace === "slow" ? PACES.slow.speed / PACES.own.speed : pace;
     const counted = (count) => inSigns(count, code, { maximumFractionDigits: 0 });
     if (times === 1) return ["1 : 1", text("paceOwn")];
-    return times > 1 ? [`${counted(times)} : 1`, text("paceFaster", { count: counted(times) })] : [`1 : ${counted(1 / times)}`, text("paceSlower", { count: counted(1 / times) })];
+    return times > 1
+        ? [`${counted(times)} : 1`, text("paceFaster", { count: counted(times) })]
+        : [`1 : ${counted(1 / times)}`, text("paceSlower", { count: counted(1 / times) })];
 }
 
 /** The pace, and the two clocks: that here, and the machine's, which are word times since the first order. */
 function makePaceBox(exhibit, texts) {
     const { text } = texts;
     const [ratio, said, here, machine, passed] = [h("b", {}), h("span", {}), h("b", {}), h("b", {}), h("p", { class: "passed-over" })];
-    const node = h("section", { class: "pace-told", "aria-label": text("paceTold") }, h("p", { class: "ratio" }, ratio, " ", said), h("p", { class: "two-clocks" }, h("span", {}, `${text("clockHere")} `, here), " ", h("span", {}, `${text("clockMachine")} `, machine)), passed);
+    const node = h(
+        "section",
+        { class: "pace-told", "aria-label": text("paceTold") },
+        h("p", { class: "ratio" }, ratio, " ", said),
+        h(
+            "p",
+            { class: "two-clocks" },
+            h("span", {}, `${text("clockHere")} `, here),
+            " ",
+            h("span", {}, `${text("clockMachine")} `, machine)
+        ),
+        passed
+    );
     const seconds = (wordTimes) => (wordTimes * WORD_TIME) / 1000;
     const show = () => {
         const { clocks, pace, passedOver } = exhibit;
@@ -59,7 +76,9 @@ function makeTold(exhibit, { code }) {
         shown = caption;
         const said = caption?.text[code] ?? "";
         const at = caption?.row === undefined ? -1 : said.indexOf(caption.row);
-        told.replaceChildren(...(at < 0 ? [said] : [said.slice(0, at), h("b", { class: "row-told" }, caption.row), said.slice(at + caption.row.length)]));
+        told.replaceChildren(
+            ...(at < 0 ? [said] : [said.slice(0, at), h("b", { class: "row-told" }, caption.row), said.slice(at + caption.row.length)])
+        );
     };
     return { node: told, show };
 }
@@ -92,12 +111,26 @@ function makeWash(exhibit, paper) {
     } };
 }
 
-/** What was torn off beside what is in the machine: rows that begin with the same number side by side, their other digits marked, and those to come in grey. */
+/**
+ * What was torn off beside what is in the machine: rows that begin with the same number side by side, their other digits marked, and those
+ * to come in grey.
+ */
 function makeTorn(exhibit, { text }) {
     const body = h("tbody");
-    const node = h("div", { class: "torn" }, h("table", { "aria-label": text("tornBeside") }, h("thead", {}, h("tr", {}, h("th", { scope: "col" }, text("firstRun")), h("th", { scope: "col" }, text("typedAgain")))), body));
+    const node = h(
+        "div",
+        { class: "torn" },
+        h(
+            "table",
+            { "aria-label": text("tornBeside") },
+            h("thead", {}, h("tr", {}, h("th", { scope: "col" }, text("firstRun")), h("th", { scope: "col" }, text("typedAgain")))),
+            body
+        )
+    );
     let shown = "";
-    const marked = (row, other) => differing(row.text, other?.text ?? row.text).map((part) => (part.isOther ? h("b", {}, part.text) : part.text));
+    const marked = (row, other) => (
+        differing(row.text, other?.text ?? row.text).map((part) => (part.isOther ? h("b", {}, part.text) : part.text))
+    );
     const show = () => {
         const [torn, { text: paper }] = [exhibit.pieces.all.pieces.at(-1), exhibit.paper];
         const key = `${torn?.number} ${paper.length}`;
@@ -108,16 +141,25 @@ function makeTorn(exhibit, { text }) {
         const both = pairs.findLastIndex(([left, right]) => left !== null && right !== null);
         const last = both < 0 ? Math.max(0, pairs.length - 1) : both;
         const first = Math.max(0, last - BEFORE);
-        const rows = pairs.slice(first, last + AFTER).map(([left, right], place) => h("tr", { class: first + place > last && paper !== "" ? "to-come" : null }, h("td", {}, left?.text ?? ""), h("td", {}, ...(right === null ? [] : marked(right, left)))));
+        const rows = pairs.slice(first, last + AFTER).map(([left, right], place) => h(
+            "tr",
+            { class: first + place > last && paper !== "" ? "to-come" : null },
+            h("td", {}, left?.text ?? ""),
+            h("td", {}, ...(right === null ? [] : marked(right, left)))
+        ));
         body.replaceChildren(...rows);
         const now = rows[last - first];
-        if (now !== undefined) node.scrollTop = now.offsetHeight * Math.max(0, last - first + 1 - Math.floor((SHARE * node.clientHeight) / now.offsetHeight));
+        if (now !== undefined) {
+            node.scrollTop = now.offsetHeight * Math.max(0, last - first + 1 - Math.floor((SHARE * node.clientHeight) / now.offsetHeight));
+        }
     };
     return { node, show };
 }
 
 /** The fields of an order's word that are shown, from the first bit on; between them lie two bits that no order uses. */
-const SHOWN = [["order", ...FIELDS.order], ["spare", FIELDS.order[1], FIELDS.track[0]], ["track", ...FIELDS.track], ["sector", ...FIELDS.sector]];
+const SHOWN = [
+    ["order", ...FIELDS.order], ["spare", FIELDS.order[1], FIELDS.track[0]], ["track", ...FIELDS.track], ["sector", ...FIELDS.sector],
+];
 
 /** What a field says by now. While a sum runs through the order's number it is none. */
 function saidOf(name, bits, isWhole, { text }) {
@@ -132,8 +174,17 @@ function makeBits(laboratory, exhibit, texts) {
     const node = h("div", { class: "word-bits", role: "img" });
     const fieldNode = ([name, from, to], bits, at, isWhole) => {
         const [value, below] = saidOf(name, bits.slice(from, to), isWhole, texts);
-        const cells = bits.slice(from, to).map((bit, place) => h("i", { class: `bit ${bit === 1 ? "one" : ""} ${from + place === at ? "now" : ""}` }, String(bit)));
-        return h("div", { class: `bit-field ${name}` }, h("span", {}, texts.text(`bits_${name}`)), h("span", { class: "bit-cells" }, ...cells), h("b", {}, value), h("small", {}, below));
+        const cells = bits.slice(from, to).map((bit, place) => (
+            h("i", { class: `bit ${bit === 1 ? "one" : ""} ${from + place === at ? "now" : ""}` }, String(bit))
+        ));
+        return h(
+            "div",
+            { class: `bit-field ${name}` },
+            h("span", {}, texts.text(`bits_${name}`)),
+            h("span", { class: "bit-cells" }, ...cells),
+            h("b", {}, value),
+            h("small", {}, below)
+        );
     };
     let shown = "";
     const show = () => {
@@ -141,7 +192,9 @@ function makeBits(laboratory, exhibit, texts) {
         const { bits } = exhibit;
         const picture = bits === null ? null : bits.pictures[bits.seen - 1];
         const digits = laboratory.answers[0]?.trim().split(" ")[1] ?? "00000000";
-        const now = picture === undefined ? bitsOf(bits.before) : picture === null ? bitsOf(digits) : Array.from({ length: 32 }, (unused, place) => (picture.value >>> (31 - place)) & 1);
+        const now = picture === undefined ? bitsOf(bits.before)
+            : picture === null ? bitsOf(digits)
+            : Array.from({ length: 32 }, (unused, place) => (picture.value >>> (31 - place)) & 1);
         const at = picture == null ? -1 : 31 - picture.at;
         const isWhole = picture == null || bits.seen === bits.pictures.length || at >= FIELDS.order[1];
         const key = `${now.join("")} ${at}`;
@@ -167,20 +220,43 @@ function makeWords(laboratory, exhibit, { text }) {
     return { node: h("div", { class: "words-beside" }, h("p", {}, text("madeOrders")), list), show };
 }
 
-/** The kiosk with such an exhibit: header, main and footer. `made` has the views of the page that it shows, and `others` the small buttons at the top. */
+/**
+ * The kiosk with such an exhibit: header, main and footer. `made` has the views of the page that it shows, and `others` the small buttons
+ * at the top.
+ */
 export function makeRunning(laboratory, texts, exhibit, made, others) {
     const { text, code } = texts;
-    const own = { told: makeTold(exhibit, texts), buttons: makeButtons(texts, exhibit), pace: makePaceBox(exhibit, texts), torn: makeTorn(exhibit, texts), bits: makeBits(laboratory, exhibit, texts), words: makeWords(laboratory, exhibit, texts) };
+    const own = {
+        told: makeTold(exhibit, texts),
+        buttons: makeButtons(texts, exhibit),
+        pace: makePaceBox(exhibit, texts),
+        torn: makeTorn(exhibit, texts),
+        bits: makeBits(laboratory, exhibit, texts),
+        words: makeWords(laboratory, exhibit, texts),
+    };
     // it comes after the paper, whose row it colours
     const wash = makeWash(exhibit, made.paper.node.querySelector(".paper"));
     const [title, hint] = [h("h1", {}), h("p", { class: "kiosk-hint" })];
     const header = h("header", {}, title, h("div", { class: "others" }, ...others), own.told.node, hint);
     const cabinet = h("div", { class: "cabinet" }, h("p", { class: "plate" }, h("b", {}, "ROYAL McBEE LGP-30")), made.drum.node);
     const shown = { show: () => {
-        Object.assign(document.body.dataset, { state: exhibit.state, exhibit: "running", beside: Object.keys(exhibit.beside ?? { none: true })[0], scene: exhibit.scene, busy: String(exhibit.isBusy) });
+        Object.assign(document.body.dataset, {
+            state: exhibit.state,
+            exhibit: "running",
+            beside: Object.keys(exhibit.beside ?? { none: true })[0],
+            scene: exhibit.scene,
+            busy: String(exhibit.isBusy),
+        });
         tell(title, exhibit.exhibit.title[code]);
         tell(hint, exhibit.isAttract ? text(exhibit.hint) : "");
     } };
     const beside = h("div", { class: "beside" }, own.torn.node, own.bits.node, own.words.node);
-    return { nodes: [header, h("main", {}, cabinet, own.pace.node, beside, h("div", { class: "flexowriter" }, made.paper.node, made.deck.node)), h("footer", {}, own.buttons.node)], views: [shown, ...Object.values(own), ...Object.values(made), wash] };
+    return {
+        nodes: [
+            header,
+            h("main", {}, cabinet, own.pace.node, beside, h("div", { class: "flexowriter" }, made.paper.node, made.deck.node)),
+            h("footer", {}, own.buttons.node),
+        ],
+        views: [shown, ...Object.values(own), ...Object.values(made), wash],
+    };
 }

@@ -34,7 +34,11 @@ function waitOf({ word, find }, kind) {
 export function saysOf(account) {
     const { order, find, seek, printed, passed } = account;
     const kind = kindOf(account);
-    return { kind, waits: waitOf(account, kind), values: { m: addressIn(order) ?? "–", g: printed?.sign ?? "", code: printed?.code ?? "–", n: passed, f: find, s: seek } };
+    return {
+        kind,
+        waits: waitOf(account, kind),
+        values: { m: addressIn(order) ?? "–", g: printed?.sign ?? "", code: printed?.code ?? "–", n: passed, f: find, s: seek },
+    };
 }
 
 /** Which sector the head reads next at a clock. */
@@ -42,8 +46,12 @@ const nextAt = (clock) => inTwoDigits(sectorAt(Number(clock % BigInt(SECTORS))))
 
 /** Why an order has waited, for itself and then for its word: the names of the sentences, and what stands in their places. */
 export function whyOf({ at, clock, find, take, seek, word }) {
-    const order = find === 0 || at === null ? { name: "whyRegister", values: {} } : { name: "whyOrder", values: { m: at, next: nextAt(clock), f: find } };
-    return word === null ? [order, { name: "whyNoWord", values: {} }] : [order, { name: "whyWord", values: { m: word, next: nextAt(clock + BigInt(find + take)), s: seek } }];
+    const order = find === 0 || at === null
+        ? { name: "whyRegister", values: {} }
+        : { name: "whyOrder", values: { m: at, next: nextAt(clock), f: find } };
+    return word === null
+        ? [order, { name: "whyNoWord", values: {} }]
+        : [order, { name: "whyWord", values: { m: word, next: nextAt(clock + BigInt(find + take)), s: seek } }];
 }
 
 /** What an order has rewritten: another one, to which it has given another address. Null where it has not. */
@@ -53,7 +61,10 @@ export function rewrittenBy({ order, at, stored }) {
     return { o: order, at: at ?? "–", m: stored.address, b: named(stored.before), a: named(stored.after) };
 }
 
-/** What is told of the order under way while a program plays by itself, by the name of its text and what stands in that: that it prints a sign, or has rewritten another order, as long as that can be read; or null. */
+/**
+ * What is told of the order under way while a program plays by itself, by the name of its text and what stands in that: that it prints a
+ * sign, or has rewritten another order, as long as that can be read; or null.
+ */
 export function happeningIn({ now, order, phase }, account, isTelling) {
     if (account === null || phase === null) return null;
     const event = phase === "done" && isTelling ? rewrittenBy(account) : null;

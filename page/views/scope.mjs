@@ -1,4 +1,5 @@
-// The oscilloscope: counter, instruction register and accumulator as traces over one mask of 32 columns, the most significant bit at the left. What the
+// The oscilloscope: counter, instruction register and accumulator as traces over one mask of 32 columns, the most significant bit at the
+// left. What the
 // registers hold comes from replies; how a trace rises, rounds and glows on is the page's own picture of the machine.
 import { numberOf } from "../addresses.mjs";
 import { accumulatorKinds, valueOf } from "../kinds.mjs";
@@ -10,7 +11,10 @@ const COLUMNS = 32;
 const SWING = 0.27;
 const PIECES = 10;
 const STROKES = [[9, 0.1], [4.5, 0.25], [1.7, 1]];
-/** How an old trace fades, for how long it is seen that bits have changed, and the least time between two pictures where orders pass too fast to be read. */
+/**
+ * How an old trace fades, for how long it is seen that bits have changed, and the least time between two pictures where orders pass too
+ * fast to be read.
+ */
 const GLOW = { fades: 420, ends: 1500, apart: 125 };
 const still = matchMedia("(prefers-reduced-motion: reduce)");
 
@@ -117,10 +121,18 @@ export function makeScope(laboratory, texts, { playing, isFast }) {
     const ask = () => { frames ??= requestAnimationFrame(draw); };
     const traces = Object.fromEntries(Object.keys(TRACES).map((name) => [name, makeTrace(name, ask)]));
     const values = Object.fromEntries(Object.keys(TRACES).map((name) => [name, { digits: h("code"), reading: h("small") }]));
-    const rows = Object.keys(TRACES).map((name) => h("div", { class: "trace" }, h("span", { class: "trace-name" }, text(`${name}Trace`)), h("span", { class: "trace-value" }, values[name].digits, values[name].reading), traces[name].node));
+    const rows = Object.keys(TRACES).map((name) => h(
+        "div",
+        { class: "trace" },
+        h("span", { class: "trace-name" }, text(`${name}Trace`)),
+        h("span", { class: "trace-value" }, values[name].digits, values[name].reading),
+        traces[name].node
+    ));
     const node = h("div", { class: "scope", role: "img" }, h("div", { class: "trace" }, brackets(texts)), ...rows);
     const readings = ({ register, accumulator }) => ({
-        counter: "", register: laboratory.accounts.findLast((account) => account.register === register)?.order ?? "", accumulator: accumulator === null ? "" : valueNow(accumulator) ?? `= ${wholeOf(accumulator)}`,
+        counter: "",
+        register: laboratory.accounts.findLast((account) => account.register === register)?.order ?? "",
+        accumulator: accumulator === null ? "" : valueNow(accumulator) ?? `= ${wholeOf(accumulator)}`,
     });
     /** What the accumulator holds as what was brought there, as far as that was told. */
     const valueNow = (digits) => {

@@ -1,11 +1,13 @@
-// What is scrolled has no bar of the browser's: a thumb of the page's own lies at its edge, for the mouse; wheel, touch and keys scroll by themselves. And no row of a list is cut in half at its end.
+// What is scrolled has no bar of the browser's: a thumb of the page's own lies at its edge, for the mouse; wheel, touch and keys scroll by
+// themselves. And no row of a list is cut in half at its end.
 import { h } from "./dom.mjs";
 
 /** How long a thumb is at least, in pixels. */
 const LEAST = 24;
 
 /** What may be scrolled. */
-const BOXES = ".with-arrows, .tab-panel, .scroll, .log, .script-lines, .explanation-text, .steps, .task-text, .task-answer, .card, .map-answer, .why, .piece-rows, .CodeMirror-scroll, .transcript, dialog";
+const BOXES =
+    ".with-arrows, .tab-panel, .scroll, .log, .script-lines, .explanation-text, .steps, .task-text, .task-answer, .card, .map-answer, .why, .piece-rows, .CodeMirror-scroll, .transcript, dialog";
 
 /** Of a box its frame, which is what is seen of it, and how long its content is: an editor's box is longer than its frame. */
 function lengthsOf(box) {
@@ -23,7 +25,9 @@ function makeThumb(box) {
         const { seen, all } = lengthsOf(box);
         held = { y: event.clientY, top: box.scrollTop, perPixel: all / seen };
     });
-    node.addEventListener("pointermove", ({ clientY }) => { if (held !== null) box.scrollTop = held.top + (clientY - held.y) * held.perPixel; });
+    node.addEventListener("pointermove", ({ clientY }) => {
+        if (held !== null) box.scrollTop = held.top + (clientY - held.y) * held.perPixel;
+    });
     for (const kind of ["pointerup", "pointercancel"]) node.addEventListener(kind, () => { held = null; });
     const place = (isOpen) => {
         const { frame, seen, all } = lengthsOf(box);
@@ -56,7 +60,9 @@ export function makeThumbs() {
         }
     };
     const refresh = () => { asked ??= requestAnimationFrame(place); };
-    for (const kind of ["scroll", "resize", "click", "keyup", "input", "toggle", "chosen"]) addEventListener(kind, refresh, { capture: true, passive: true });
+    for (const kind of ["scroll", "resize", "click", "keyup", "input", "toggle", "chosen"]) {
+        addEventListener(kind, refresh, { capture: true, passive: true });
+    }
     return refresh;
 }
 
@@ -64,7 +70,9 @@ export function makeThumbs() {
 export function keepWhole(box, body) {
     const set = () => {
         const { bottom, height: room } = box.getBoundingClientRect();
-        const cut = [...body.children].map((row) => row.getBoundingClientRect()).find(({ top, bottom: end }) => top < bottom && end > bottom + 1);
+        const cut = [...body.children].map((row) => row.getBoundingClientRect()).find(
+            ({ top, bottom: end }) => top < bottom && end > bottom + 1
+        );
         // an edge has whole pixels: one more would cut the row above it
         const free = cut === undefined ? 0 : Math.floor(bottom - cut.top);
         if (room > 0 && free < room / 2) box.style.borderBottom = `${free}px solid var(--unseen, transparent)`;

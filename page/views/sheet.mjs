@@ -1,4 +1,5 @@
-// The paper pulled up: a sheet over the right side of Work, in which a piece is read, laid beside another, copied, saved, printed, and of which a row is typed again.
+// The paper pulled up: a sheet over the right side of Work, in which a piece is read, laid beside another, copied, saved, printed, and of
+// which a row is typed again.
 import { STOP } from "../flexowriter.mjs";
 import { copyOf, differing, inView, rowsOf, sideBySide, typedAgain } from "../pieces.mjs";
 import { counted } from "../words.mjs";
@@ -27,12 +28,18 @@ class RowsView {
         this.#list.append(this.#inner);
         this.node = h("div", { class: "piece-box" }, this.#list);
         this.#list.addEventListener("scroll", () => { this.#draw(); scrolled(this.#list.scrollTop); });
-        this.#list.addEventListener("click", ({ target }) => { const row = target.closest("[data-row]"); if (row !== null) this.#choose(Number(row.dataset.row), open); });
+        this.#list.addEventListener("click", ({ target }) => {
+            const row = target.closest("[data-row]");
+            if (row !== null) this.#choose(Number(row.dataset.row), open);
+        });
         this.#list.addEventListener("keydown", (event) => this.#key(event, open, close));
         new ResizeObserver(() => this.#draw()).observe(this.#list);
     }
 
-    /** Shows rows, of which null ones are empty, and beside which those of another piece stand; it stays where it was, or, where it was at its end, at the end. */
+    /**
+     * Shows rows, of which null ones are empty, and beside which those of another piece stand; it stays where it was, or, where it was at
+     * its end, at the end.
+     */
     set(rows, others = []) {
         const wasAtEnd = this.#list.scrollTop + this.#list.clientHeight >= this.#inner.clientHeight - 4;
         [this.rows, this.#others] = [rows, others];
@@ -83,24 +90,51 @@ class RowsView {
 
     #row(row, at) {
         const other = this.#others[at];
-        const parts = row === null ? [] : other == null || other.isTyped || row.isTyped ? [row.text] : differing(row.text, other.text).map((part) => (part.isOther ? h("b", {}, part.text) : part.text));
-        return h("div", { class: `piece-row ${row?.isTyped ? "was-typed" : ""} ${at === this.at ? "marked" : ""}`, id: `${this.#name}-${at}`, role: "option", "data-row": at, "aria-selected": String(at === this.at), "aria-setsize": this.rows.length, "aria-posinset": at + 1, style: `top: ${at * ROW}px` }, ...parts);
+        const parts = row === null ? []
+            : other == null || other.isTyped || row.isTyped ? [row.text]
+            : differing(row.text, other.text).map((part) => (part.isOther ? h("b", {}, part.text) : part.text));
+        return h(
+            "div",
+            {
+                class: `piece-row ${row?.isTyped ? "was-typed" : ""} ${at === this.at ? "marked" : ""}`,
+                id: `${this.#name}-${at}`,
+                role: "option",
+                "data-row": at,
+                "aria-selected": String(at === this.at),
+                "aria-setsize": this.rows.length,
+                "aria-posinset": at + 1,
+                style: `top: ${at * ROW}px`,
+            },
+            ...parts
+        );
     }
 
     #draw() {
         const { scrollTop, clientHeight } = this.#list;
         const { first, end } = inView({ top: scrollTop, height: clientHeight, row: ROW, count: this.rows.length });
         const open = this.#inner.querySelector(".row-open");
-        this.#inner.replaceChildren(...this.rows.slice(first, end).map((row, place) => this.#row(row, first + place)), ...(open === null ? [] : [open]));
+        this.#inner.replaceChildren(
+            ...this.rows.slice(first, end).map((row, place) => this.#row(row, first + place)), ...(open === null ? [] : [open])
+        );
         this.#list.setAttribute("aria-activedescendant", this.rows.length === 0 ? "" : `${this.#name}-${this.at}`);
     }
 }
 
 /** What is shown as keys that are struck: a number, and the conditional stop after it. */
-const struck = (keys, { text }) => h("p", { class: "struck-keys" }, ...keys.flatMap((key) => [h("code", {}, key.replace(STOP, "")), h("i", {}, text("stopKey")), " "]));
+const struck = (keys, { text }) => (
+    h("p", { class: "struck-keys" }, ...keys.flatMap((key) => [h("code", {}, key.replace(STOP, "")), h("i", {}, text("stopKey")), " "]))
+);
 
 /** A piece as it is printed. */
-const printedPage = (rows, title, word) => `<style>body { font: 12pt/1.35 monospace; } pre { font: inherit; white-space: pre-wrap;${rows.every(({ text }) => text.length < TWO_COLUMNS) ? " columns: 2;" : ""} } h1 { font-size: 12pt; }</style><h1></h1><pre></pre>`.replace("<h1></h1>", () => `<h1>${escaped(title)}</h1>`).replace("<pre></pre>", () => `<pre>${escaped(copyOf(rows, word))}</pre>`);
+const printedPage = (rows, title, word) => `<style>body { font: 12pt/1.35 monospace; } pre { font: inherit; white-space: pre-wrap;${rows.every(
+    ({ text }) => text.length < TWO_COLUMNS
+)
+    ? " columns: 2;"
+    : ""} } h1 { font-size: 12pt; }</style><h1></h1><pre></pre>`.replace(
+    "<h1></h1>", () => `<h1>${escaped(title)}</h1>`
+).replace(
+    "<pre></pre>", () => `<pre>${escaped(copyOf(rows, word))}</pre>`
+);
 const escaped = (text) => text.replaceAll("&", "&amp;").replaceAll("<", "&lt;");
 
 /** The paper pulled up. `pieces` are those torn off, `print` prints a page, and `changed` is called when a piece was torn off. */
@@ -126,24 +160,50 @@ class Sheet {
         [this.#laboratory, this.#texts, this.#pieces, this.#actions] = [laboratory, texts, pieces, actions];
         const { text } = texts;
         this.#sides = ["left", "right"].map((name, side) => this.#side(name, side));
-        this.#halves = [["onePiece", false], ["twoPieces", true]].map(([name, two]) => button(text(name), () => { this.#isTwo = two; this.#draw(); }, { "aria-pressed": String(!two), "data-name": name }));
-        this.node = h("section", { class: "pulled-up", "aria-label": text("sheetOfPaper"), hidden: true }, this.#bar(), h("div", { class: "sheet-pieces" }, ...this.#sides.map(({ node }) => node)), this.#foot);
+        this.#halves = [["onePiece", false], ["twoPieces", true]].map(([name, two]) => (
+            button(text(name), () => { this.#isTwo = two; this.#draw(); }, { "aria-pressed": String(!two), "data-name": name })
+        ));
+        this.node = h(
+            "section",
+            { class: "pulled-up", "aria-label": text("sheetOfPaper"), hidden: true },
+            this.#bar(),
+            h("div", { class: "sheet-pieces" }, ...this.#sides.map(({ node }) => node)),
+            this.#foot
+        );
         this.control = button(`⇧ ${text("pullUp")} F4`, () => this.toggle(), { class: "pull-up", id: "pull-up", "aria-expanded": "false" });
     }
 
     #side(name, side) {
         const { text } = this.#texts;
-        const choice = h("select", { "aria-label": text("whichPiece"), onchange: () => { this.#chosen[side] = choice.value === "" ? null : Number(choice.value); this.#draw(); } });
+        const choice = h("select", {
+            "aria-label": text("whichPiece"),
+            onchange: () => { this.#chosen[side] = choice.value === "" ? null : Number(choice.value); this.#draw(); },
+        });
         const scrolled = (top) => { if (this.#isTwo && this.#both.checked) this.#sides[1 - side].view.scrollTo(top); };
-        const view = new RowsView(`row-${name}`, text("sheetOfPaper"), { open: (it) => this.#open(it), close: () => this.#shut(), scrolled });
+        const view = new RowsView(
+            `row-${name}`, text("sheetOfPaper"), { open: (it) => this.#open(it), close: () => this.#shut(), scrolled }
+        );
         return { choice, view, node: h("div", { class: `paper-piece piece-${name}` }, choice, view.node) };
     }
 
     #bar() {
         const { text } = this.#texts;
-        const print = () => { const { piece, rows } = this.#shown; this.#actions.print(printedPage(rows, this.#nameOf(piece, rows), text("typedWord"))); };
-        return h("div", { class: "sheet-bar" }, h("h2", {}, text("sheetOfPaper")), button(text("tearOff"), () => this.#tear(), { id: "tear-off" }), button(text("printPaper"), print), button(text("copy"), () => this.#copy(this.#shown.rows), { id: "copy-paper" }),
-            button(text("savePaper"), () => this.#save(this.#shown)), h("span", { class: "paces", role: "group" }, ...this.#halves), h("label", { class: "same-rows" }, this.#both, ` ${text("sameRows")}`), button(`${text("letDown")} Esc`, () => this.toggle(), { id: "let-down" }));
+        const print = () => {
+            const { piece, rows } = this.#shown;
+            this.#actions.print(printedPage(rows, this.#nameOf(piece, rows), text("typedWord")));
+        };
+        return h(
+            "div",
+            { class: "sheet-bar" },
+            h("h2", {}, text("sheetOfPaper")),
+            button(text("tearOff"), () => this.#tear(), { id: "tear-off" }),
+            button(text("printPaper"), print),
+            button(text("copy"), () => this.#copy(this.#shown.rows), { id: "copy-paper" }),
+            button(text("savePaper"), () => this.#save(this.#shown)),
+            h("span", { class: "paces", role: "group" }, ...this.#halves),
+            h("label", { class: "same-rows" }, this.#both, ` ${text("sameRows")}`),
+            button(`${text("letDown")} Esc`, () => this.toggle(), { id: "let-down" })
+        );
     }
 
     get isUp() {
@@ -195,10 +255,20 @@ class Sheet {
         const { text } = this.#texts;
         const [row, isLive] = [view.rows[view.at], this.#isLive];
         const keys = typedAgain(row);
-        const again = guarded(text("typeAgain"), { class: "primary" }, () => this.#type(keys), () => this.#laboratory.tell({ kind: "notWaiting" }));
+        const again = guarded(
+            text("typeAgain"), { class: "primary" }, () => this.#type(keys), () => this.#laboratory.tell({ kind: "notWaiting" })
+        );
         showLive(again, isLive);
         const typing = keys.length === 0 ? [] : [struck(keys, this.#texts)];
-        view.lay(h("div", { class: "row-open" }, h("div", { class: "line" }, ...(keys.length === 0 ? [] : [again]), button(text("copy"), () => this.#copy([row]))), ...typing, isLive ? null : h("p", {}, text("notWaiting"))));
+        view.lay(
+            h(
+                "div",
+                { class: "row-open" },
+                h("div", { class: "line" }, ...(keys.length === 0 ? [] : [again]), button(text("copy"), () => this.#copy([row]))),
+                ...typing,
+                isLive ? null : h("p", {}, text("notWaiting"))
+            )
+        );
         this.#opened = { view, isLive };
     }
 
@@ -228,7 +298,9 @@ class Sheet {
     #tear() {
         const { text, code } = this.#texts;
         const { printed, history } = this.#laboratory;
-        const oldest = this.#pieces.tear(printed.text, history.typed, new Date().toLocaleTimeString(code, { hour: "2-digit", minute: "2-digit", hour12: false }));
+        const oldest = this.#pieces.tear(
+            printed.text, history.typed, new Date().toLocaleTimeString(code, { hour: "2-digit", minute: "2-digit", hour12: false })
+        );
         if (oldest === undefined) return tell(this.#foot, text("nothingToTear"));
         const torn = this.#pieces.all.pieces.at(-1);
         this.#chosen[0] = torn.number;
@@ -242,7 +314,13 @@ class Sheet {
         const { pieces } = this.#pieces.all;
         const key = `${this.#laboratory.printed.count} ${pieces.length}`;
         this.#sides.forEach(({ choice }, side) => {
-            if (choice.dataset.key !== key) choice.replaceChildren(...[null, ...pieces].map((piece) => h("option", { value: piece?.number ?? "" }, this.#nameOf(piece, this.#rowsOf(piece)))));
+            if (choice.dataset.key !== key) {
+                choice.replaceChildren(
+                    ...[null, ...pieces].map((piece) => (
+                        h("option", { value: piece?.number ?? "" }, this.#nameOf(piece, this.#rowsOf(piece)))
+                    ))
+                );
+            }
             choice.dataset.key = key;
             choice.value = this.#chosen[side] ?? "";
         });

@@ -9,7 +9,10 @@ import { makeEditor } from "./editor.mjs";
 /** How long nothing is written before the laboratory is asked. */
 const ASKED_AFTER = 300;
 
-/** Asks of a text what a laboratory says, once nothing was written for a while. `told` is called with the answer to the text that stands there then. */
+/**
+ * Asks of a text what a laboratory says, once nothing was written for a while. `told` is called with the answer to the text that stands
+ * there then.
+ */
 export function makeCheck(checker, told) {
     let [wanted, timer] = [null, null];
     const ask = async () => {
@@ -26,9 +29,16 @@ export function makeCheck(checker, told) {
 }
 
 /** The stops of the machine by their places, each with the number of its rule. */
-const stopsOf = ({ rules }) => new Map(rules.map((rule, number) => [rule.split(" "), number]).filter(([[kind]]) => kind === "break").map(([[, place], number]) => [place, number]));
+const stopsOf = ({ rules }) => new Map(
+    rules.map((rule, number) => [rule.split(" "), number])
+        .filter(([[kind]]) => kind === "break")
+        .map(([[, place], number]) => [place, number])
+);
 
-/** What stands beside a line: its stop, and its place and digits as in a listing; those that the drum has now, where it has others. What is said of an earlier text changes nothing. */
+/**
+ * What stands beside a line: its stop, and its place and digits as in a listing; those that the drum has now, where it has others. What is
+ * said of an earlier text changes nothing.
+ */
 const besideOf = (laboratory, state) => (line) => {
     if (!state.isFresh) return null;
     const word = state.said?.wordOf(line) ?? null;
@@ -36,17 +46,33 @@ const besideOf = (laboratory, state) => (line) => {
     const isStop = stopsOf(laboratory).has(word.place);
     const { digits } = (state.isOnDrum ? laboratory.known.get(word.place) : null) ?? word;
     const isChanged = digits !== word.digits;
-    return [`${word.place} ${digits} ${isStop} ${isChanged}`, { places: h("span", { class: isChanged ? "place changed" : "place" }, h("b", {}, word.place), h("span", { class: "digits" }, ` ${digits}`)), stops: isStop ? h("span", { class: "stop" }, "●") : null }];
+    return [
+        `${word.place} ${digits} ${isStop} ${isChanged}`,
+        {
+            places: h(
+                "span",
+                { class: isChanged ? "place changed" : "place" },
+                h("b", {}, word.place),
+                h("span", { class: "digits" }, ` ${digits}`)
+            ),
+            stops: isStop ? h("span", { class: "stop" }, "●") : null,
+        },
+    ];
 };
 
-/** What stands at the right edge of a line whose source is on the drum: the word that is there now as what it is, where it is a whole number or the program has changed it. */
+/**
+ * What stands at the right edge of a line whose source is on the drum: the word that is there now as what it is, where it is a whole number
+ * or the program has changed it.
+ */
 const edgeOf = (laboratory, state, texts) => (line) => {
     const word = state.isFresh && state.isOnDrum ? state.said?.wordOf(line) ?? null : null;
     const now = word === null ? undefined : laboratory.known.get(word.place);
     if (now === undefined) return null;
     const isWhole = typeof laboratory.kinds.get(word.place) === "number";
     const isChanged = now.digits !== word.digits;
-    return isChanged || isWhole ? { text: valueAt(laboratory.kinds, word.place, now.digits, texts), is: isChanged ? "changed" : "whole" } : null;
+    return isChanged || isWhole
+        ? { text: valueAt(laboratory.kinds, word.place, now.digits, texts), is: isChanged ? "changed" : "whole" }
+        : null;
 };
 
 /** What is written, what a laboratory says of it and of which text that is said, and whether the text is on the drum. */
@@ -63,7 +89,11 @@ function makeDigits({ text }, editor) {
         editor.node.classList.toggle("with-digits", isOn);
         editor.refresh();
     };
-    const control = button(text("digitsToo"), () => { hasDigits = control.getAttribute("aria-pressed") === "false"; show(); }, { id: "digits-too", title: text("digitsTooHint") });
+    const control = button(
+        text("digitsToo"),
+        () => { hasDigits = control.getAttribute("aria-pressed") === "false"; show(); },
+        { id: "digits-too", title: text("digitsTooHint") }
+    );
     show();
     return control;
 }
@@ -88,14 +118,18 @@ export function makeVerdict(texts, editor) {
         if (faults.length === 0) return "";
         const [{ line, kind, word, sentence: wrong }] = faults;
         const more = (isAsked ? said.count : faults.length) - 1;
-        return `${text(kind === "NoEnd" ? "faultAtEnd" : "faultAt", { line })}${word === "" ? "" : `${word} – `}${wrong}.${more > 0 ? ` ${text("moreFaults", { count: more })}` : ""}`;
+        return `${text(
+            kind === "NoEnd" ? "faultAtEnd" : "faultAt", { line }
+        )}${word === "" ? "" : `${word} – `}${wrong}.${more > 0 ? ` ${text("moreFaults", { count: more })}` : ""}`;
     };
     /** Tells the faults that are told by now, of all that there are. */
     const refresh = () => {
         const now = { inWork: editor().inWork(), hasEnd: all.length > 0 && hasEndLine(lines), isAsked };
         const before = faults;
         faults = all.filter((fault) => isTold(fault, now));
-        node.dataset.is = said === null || said.refusal === null && all.length > 0 && faults.length === 0 ? "" : said.isRight ? "right" : "wrong";
+        node.dataset.is = said === null || said.refusal === null && all.length > 0 && faults.length === 0 ? ""
+            : said.isRight ? "right"
+            : "wrong";
         there.hidden = faults.length === 0;
         tell(told, [sentence(), also].filter((it) => it !== "").join(" "));
         if (faults.length !== before.length || faults.some((fault, place) => fault !== before[place])) editor().showFaults(faults);
@@ -110,7 +144,16 @@ export function makeVerdict(texts, editor) {
     /** Somebody wants to run what is written: all its faults are told. */
     const ask = () => { isAsked = true; refresh(); };
     const goToLine = (wanted) => goTo(faults.find(({ line }) => line === wanted) ?? { line: wanted, from: 0, to: 0 });
-    return { node, show, next, ask, refresh, count: () => (said?.refusal !== null || said.isRight ? 0 : isAsked ? said.count : faults.length), goToLine, say: (words) => tell(told, words) };
+    return {
+        node,
+        show,
+        next,
+        ask,
+        refresh,
+        count: () => (said?.refusal !== null || said.isRight ? 0 : isAsked ? said.count : faults.length),
+        goToLine,
+        say: (words) => tell(told, words),
+    };
 }
 
 /** What is done with the source by keys and buttons. */
@@ -136,8 +179,22 @@ function makeActions(laboratory, { text }, state, { runIt, checker, editor, verd
 /** The editor of the source with its card, and the line below it. */
 function makeWriting(laboratory, texts, state, actions, changed, stop) {
     const commentOf = (line, rest) => [state.isFresh ? state.said?.placeOf(line) : "", rest].filter(Boolean).join(" ");
-    const keys = { "Ctrl-Enter": actions.run, "Cmd-Enter": actions.run, F8: () => verdict.next(), F9: () => actions.stopAt(editor.line()), Esc: () => (card.isOpen() ? card.close() : stop()) };
-    const editor = makeEditor("source", texts, { changed, actions: keys, beside: besideOf(laboratory, state), edgeOf: edgeOf(laboratory, state, texts), pressed: actions.stopAt, moved: () => { if (card.isOpen()) card.light(); verdict.refresh(); }, commentOf });
+    const keys = {
+        "Ctrl-Enter": actions.run,
+        "Cmd-Enter": actions.run,
+        F8: () => verdict.next(),
+        F9: () => actions.stopAt(editor.line()),
+        Esc: () => (card.isOpen() ? card.close() : stop()),
+    };
+    const editor = makeEditor("source", texts, {
+        changed,
+        actions: keys,
+        beside: besideOf(laboratory, state),
+        edgeOf: edgeOf(laboratory, state, texts),
+        pressed: actions.stopAt,
+        moved: () => { if (card.isOpen()) card.light(); verdict.refresh(); },
+        commentOf,
+    });
     const card = makeCard(laboratory, texts, editor.operation);
     const verdict = makeVerdict(texts, () => editor);
     return { editor, card, verdict };
@@ -156,7 +213,11 @@ function followWords(laboratory, state, editor) {
     laboratory.knowAt(lines.map((line) => state.said.wordOf(line)?.place).filter((place) => place !== undefined));
 }
 
-/** The part of the page with the source. What is written stays as a draft until it is assembled; `runIt` runs a source, `checker` says what a laboratory says of one, `told` is called when it has, `markNow` tells the order under way, `stop` stops the machine, and `given` is the source of an example whose words a script has put in, or "". */
+/**
+ * The part of the page with the source. What is written stays as a draft until it is assembled; `runIt` runs a source, `checker` says what
+ * a laboratory says of one, `told` is called when it has, `markNow` tells the order under way, `stop` stops the machine, and `given` is the
+ * source of an example whose words a script has put in, or "".
+ */
 export function makeSource(laboratory, texts, drafts, { runIt, checker, told, markNow, stop, given }) {
     const { text } = texts;
     const state = newState();
@@ -191,7 +252,11 @@ export function makeSource(laboratory, texts, drafts, { runIt, checker, told, ma
     };
     const show = () => {
         if (drafts.of("source") === own()) drafts.keep("source", null);
-        if (now() !== state.shown) { Object.assign(state, { shown: now(), said: null, saidOf: now() }); editor.set(state.shown); showSaid(); }
+        if (now() !== state.shown) {
+            Object.assign(state, { shown: now(), said: null, saidOf: now() });
+            editor.set(state.shown);
+            showSaid();
+        }
         if (node.checkVisibility()) check(state.shown);
         if (alsoOf(laboratory, texts, state) !== also) showSaid();
         state.isOnDrum = isLoadedNow() && node.checkVisibility();
@@ -200,8 +265,19 @@ export function makeSource(laboratory, texts, drafts, { runIt, checker, told, ma
         light();
     };
     const run = button(text("runProgram"), actions.run, { id: "run-program", class: "primary", title: text("runProgramHint") });
-    const buttons = [button(`${text("card")} F1`, card.toggle, { id: "card-open", "aria-controls": "card" }), makeDigits(texts, editor), ...["assemble", "load"].map((name) => button(text(name), actions[name], { id: name }))];
-    const node = part("source", text("source"), h("div", { class: "line" }, ...buttons), editor.node, verdict.node, h("small", { class: "editor-keys" }, text("editorKeys")));
+    const buttons = [
+        button(`${text("card")} F1`, card.toggle, { id: "card-open", "aria-controls": "card" }),
+        makeDigits(texts, editor),
+        ...["assemble", "load"].map((name) => button(text(name), actions[name], { id: name })),
+    ];
+    const node = part(
+        "source",
+        text("source"),
+        h("div", { class: "line" }, ...buttons),
+        editor.node,
+        verdict.node,
+        h("small", { class: "editor-keys" }, text("editorKeys"))
+    );
     const faults = () => (state.isFresh ? verdict.count() : 0);
     return { node, show, frame: light, run, faults, card, rewrite: editor.rewrite };
 }

@@ -16,7 +16,14 @@ export function makeTabs(name, label) {
         node.dispatchEvent(new Event("chosen", { bubbles: true }));
     };
     const make = (entry, title) => {
-        const tab = h("button", { type: "button", role: "tab", id: `tab-${name}-${entry}`, "data-tab": entry, "data-name": `tab-${entry}`, onclick: () => choose(entry) }, title);
+        const tab = h(
+            "button",
+            {
+                type: "button", role: "tab", id: `tab-${name}-${entry}`, "data-tab": entry, "data-name": `tab-${entry}`,
+                onclick: () => choose(entry),
+            },
+            title
+        );
         const panel = h("div", { class: "tab-panel", role: "tabpanel", "aria-labelledby": tab.id, "data-panel": entry });
         panel.addEventListener("reveal", () => choose(entry));
         return { tab, panel };
@@ -49,6 +56,8 @@ export function fill(node, children) {
 
 /** Chooses the tabs under which a node is seen. */
 export function reveal(node) {
-    for (let panel = node?.closest(".tab-panel"); panel != null; panel = panel.parentElement.closest(".tab-panel")) panel.dispatchEvent(new Event("reveal"));
+    for (let panel = node?.closest(".tab-panel"); panel != null; panel = panel.parentElement.closest(".tab-panel")) {
+        panel.dispatchEvent(new Event("reveal"));
+    }
     return node;
 }

@@ -1,7 +1,10 @@
 // Guided stories: captions one after another, each with the orders that it plays in slow motion.
 import { button, guarded, h, part, showLive, tell } from "./dom.mjs";
 
-/** The stories: the example that each opens, how many of its orders are done before, and how many each caption plays; the last one may let it run. */
+/**
+ * The stories: the example that each opens, how many of its orders are done before, and how many each caption plays; the last one may let
+ * it run.
+ */
 export const TALES = [
     { name: "wait", example: "self-modifying", before: 0, plays: [1, 1, 1, 1, 0] },
     { name: "rewrite", example: "self-modifying", before: 9, plays: [0, 1, 1, 1, 0] },
@@ -12,7 +15,10 @@ export const TALES = [
 /** Where a viewer is: the story, or null, its caption, and after how many orders it begins. It outlasts a change of the language. */
 export const noTale = () => ({ tale: null, at: 0, first: 0 });
 
-/** The part of the page with the stories. `open` opens an example and sets it going, and `told` is called when another caption is reached, and `after` has the name of what follows the last story, and opens it. One story is played at a time: the last that was asked for. */
+/**
+ * The part of the page with the stories. `open` opens an example and sets it going, and `told` is called when another caption is reached,
+ * and `after` has the name of what follows the last story, and opens it. One story is played at a time: the last that was asked for.
+ */
 export function makeTales(laboratory, { text, table }, drive, { open, viewer, told, others, after }) {
     let round = 0;
     // while a story is opened its machine is not there yet, and no caption speaks of it
@@ -23,7 +29,11 @@ export function makeTales(laboratory, { text, table }, drive, { open, viewer, to
         if (viewer.at + 1 < viewer.tale.plays.length) return goTo(viewer.at + 1);
         return following === undefined ? after.open() : begin(following);
     };
-    const [place, backOne, nextOne] = [h("span", { class: "caption-at" }), guarded(text("captionBack"), { id: "caption-back" }, () => goTo(viewer.at - 1)), button(text("captionNext"), next, { id: "caption-next" })];
+    const [place, backOne, nextOne] = [
+        h("span", { class: "caption-at" }),
+        guarded(text("captionBack"), { id: "caption-back" }, () => goTo(viewer.at - 1)),
+        button(text("captionNext"), next, { id: "caption-next" }),
+    ];
     const choices = TALES.map((it) => button(table.tales[it.name].title, () => begin(it), { "data-tale": it.name }));
     const orders = (count) => viewer.tale.plays.slice(0, count).reduce((sum, plays) => sum + plays, viewer.first);
     /** Goes to a place, and waits for what leads there. Whether nothing else was asked for meanwhile. */
@@ -94,5 +104,16 @@ export function makeTales(laboratory, { text, table }, drive, { open, viewer, to
         caption.setAttribute("aria-busy", "false");
         show();
     };
-    return { node: part("tales", text("talesName"), h("div", { class: "line" }, ...choices, ...others), caption, h("div", { class: "line" }, backOne, nextOne, place)), show, openAt, leave };
+    return {
+        node: part(
+            "tales",
+            text("talesName"),
+            h("div", { class: "line" }, ...choices, ...others),
+            caption,
+            h("div", { class: "line" }, backOne, nextOne, place)
+        ),
+        show,
+        openAt,
+        leave,
+    };
 }

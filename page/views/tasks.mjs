@@ -1,4 +1,5 @@
-// Tasks: the text of one, a source that is written for it, and what its check says, in the sentences of ./check_task. The check has a laboratory of its own.
+// Tasks: the text of one, a source that is written for it, and what its check says, in the sentences of ./check_task. The check has a
+// laboratory of its own.
 import { checkClass, textOf } from "../class_check.mjs";
 import { linesIn } from "../lines.mjs";
 import { assembled, checked, setUpOf, speaker, taskIn, textAtPage } from "../task.mjs";
@@ -39,7 +40,9 @@ function makeAnswer({ text }) {
     const show = (said) => {
         node.classList.toggle("right", said?.isRight === true);
         node.classList.toggle("wrong", said?.isRight === false);
-        node.replaceChildren(...(said === null ? [] : [h("p", {}, said.verdict), h("ul", {}, ...said.missing.map((line) => h("li", {}, line)))]));
+        node.replaceChildren(
+            ...(said === null ? [] : [h("p", {}, said.verdict), h("ul", {}, ...said.missing.map((line) => h("li", {}, line)))])
+        );
     };
     return { node, show };
 }
@@ -85,23 +88,42 @@ function makeActions({ text }, now, { sentences, code, openLink, answer, setUp, 
         const href = URL.createObjectURL(new Blob([source], { type: "text/plain" }));
         h("a", { href, download: file }).click();
     };
-    const buttons = Object.entries({ check, run: runIt, put, save, begin, takeBack }).map(([name, action]) => button(text(`${name}Task`), action, { id: `${name === "takeBack" ? "take-back" : name}-task`, title: text(`${name}TaskHint`), class: name === "check" ? "primary" : null }));
+    const buttons = Object.entries({ check, run: runIt, put, save, begin, takeBack }).map(
+        ([name, action]) => button(text(`${name}Task`), action, {
+            id: `${name === "takeBack" ? "take-back" : name}-task`,
+            title: text(`${name}TaskHint`),
+            class: name === "check" ? "primary" : null,
+        })
+    );
     return { node: h("div", { class: "line" }, ...buttons), showBack: (isThere) => { buttons.at(-1).hidden = !isThere; } };
 }
 
 /** What the check says of the files of a class, in a window of its own and as a file. */
 function showClass(verdicts, { text }, dialog) {
     const [all, right] = [textOf(verdicts), verdicts.filter(({ isRight }) => isRight).length];
-    const link = h("a", { id: "save-class", href: URL.createObjectURL(new Blob([all], { type: "text/plain" })), download: "class.txt" }, text("classSaved"));
-    dialog(text("classTitle"), h("p", {}, text("classRight", { right, count: verdicts.length })), h("pre", { class: "transcript", tabindex: "0", role: "group", "aria-label": text("classTitle") }, all), h("p", {}, link));
+    const link = h(
+        "a",
+        { id: "save-class", href: URL.createObjectURL(new Blob([all], { type: "text/plain" })), download: "class.txt" },
+        text("classSaved")
+    );
+    dialog(
+        text("classTitle"),
+        h("p", {}, text("classRight", { right, count: verdicts.length })),
+        h("pre", { class: "transcript", tabindex: "0", role: "group", "aria-label": text("classTitle") }, all),
+        h("p", {}, link)
+    );
 }
 
-/** The part of the page with the task that is open, and the names and titles of all. `sources` has what pupils have written, `openLink` gives a link to a new laboratory, `checker` says what one says of a source, `setUp` sets
- * the machine up by a script, and `run` runs it. */
+/**
+ * The part of the page with the task that is open, and the names and titles of all. `sources` has what pupils have written, `openLink`
+ * gives a link to a new laboratory, `checker` says what one says of a source, `setUp` sets the machine up by a script, and `run` runs it.
+ */
 export function makeTasks(texts, { tasks, sentences }, { sources, openLink, checker, setUp, run }) {
     const { text } = texts;
     const code = texts.code in sentences ? texts.code : "en";
-    const titles = Object.entries(tasks).map(([name, it]) => [name, text("taskTitle", { title: /^# (.*)$/m.exec(it.texts[code])[1], minutes: taskIn(it.task).minutes })]);
+    const titles = Object.entries(tasks).map(([name, it]) => (
+        [name, text("taskTitle", { title: /^# (.*)$/m.exec(it.texts[code])[1], minutes: taskIn(it.task).minutes })]
+    ));
     const answer = makeAnswer(texts);
     const read = h("div", { class: "task-text", tabindex: "0", role: "group", "aria-label": text("taskText") });
     const changed = (written) => {
@@ -120,7 +142,9 @@ export function makeTasks(texts, { tasks, sentences }, { sources, openLink, chec
         if (editor.value() !== source) editor.set(source);
         check(source);
     };
-    const now = () => ({ name: sources.open, task: taskIn(tasks[sources.open].task), file: `${sources.open}.source`, source: editor.value() });
+    const now = () => (
+        { name: sources.open, task: taskIn(tasks[sources.open].task), file: `${sources.open}.source`, source: editor.value() }
+    );
     const open = (name) => {
         sources.open = name;
         node.hidden = name === null;
@@ -142,7 +166,9 @@ export function makeTasks(texts, { tasks, sentences }, { sources, openLink, chec
     };
     const begin = () => { sources.begin(sources.open); open(sources.open); };
     const takeBack = () => { sources.takeBack(sources.open); open(sources.open); editor.focus(); };
-    const buttons = makeActions(texts, now, { sentences: { ...sentences.en, ...sentences[code] }, code, openLink, answer, setUp, run, begin, takeBack });
+    const buttons = makeActions(texts, now, {
+        sentences: { ...sentences.en, ...sentences[code] }, code, openLink, answer, setUp, run, begin, takeBack,
+    });
     const desk = h("div", { class: "task-desk" }, verdict.node, buttons.node, answer.node);
     const node = part("tasks", text("tasksName"), h("div", { class: "task" }, read, desk));
     open(sources.open);

@@ -1,4 +1,5 @@
-// The time line: the told orders one after another, as wide as their word times; what was not told is one bar between them, which leaves them most of the line.
+// The time line: the told orders one after another, as wide as their word times; what was not told is one bar between them, which leaves
+// them most of the line.
 import { PHASES } from "../player.mjs";
 import { h } from "./dom.mjs";
 import { rewrittenBy } from "./says.mjs";
@@ -21,7 +22,10 @@ export function barsOf(accounts, clock) {
     return bars;
 }
 
-/** The share of the line that what was not told has at most, where something was; and how wide it is where its orders cannot be counted, as those of the loader. */
+/**
+ * The share of the line that what was not told has at most, where something was; and how wide it is where its orders cannot be counted, as
+ * those of the loader.
+ */
 const UNTOLD = 0.3;
 const STUB = 24;
 
@@ -82,7 +86,10 @@ export function makeTimeline(laboratory, { isFast }, nameOf) {
     new ResizeObserver(([{ contentRect: { width } }]) => {
         node.width = Math.round(width);
         const named = (name) => getComputedStyle(node).getPropertyValue(name);
-        colours = { ink: named("--ink"), font: `11px ${named("--labels")}`, find: named("--find"), take: named("--take"), seek: named("--seek"), act: named("--act"), rewritten: named("--write"), untold: named("--hair") };
+        colours = {
+            ink: named("--ink"), font: `11px ${named("--labels")}`, find: named("--find"), take: named("--take"), seek: named("--seek"),
+            act: named("--act"), rewritten: named("--write"), untold: named("--hair"),
+        };
         draw();
     }).observe(node);
     const show = () => {

@@ -11,13 +11,26 @@ const runsOf = (signs) => [...signs.matchAll(/(.)\1*/g)].map(([run, sign]) => h(
 /** A row of the drum, in two halves, which stand below one another where there is no room for both. */
 function rowOf({ clock, signs }) {
     const halves = [signs.slice(0, SECTORS / 2), signs.slice(SECTORS / 2)];
-    return h("div", { class: "drum-row" }, h("span", { class: "row-clock" }, `${String(clock).padStart(8)}  `), ...halves.map((half) => h("span", { class: "half" }, ...runsOf(half))));
+    return h(
+        "div",
+        { class: "drum-row" },
+        h("span", { class: "row-clock" }, `${String(clock).padStart(8)}  `),
+        ...halves.map((half) => h("span", { class: "half" }, ...runsOf(half)))
+    );
 }
 
-/** The part of the page with the rows of the last turns. They are drawn only while they are open; `toggled` is told whether they are open. */
+/**
+ * The part of the page with the rows of the last turns. They are drawn only while they are open; `toggled` is told whether they are open.
+ */
 export function makeTurns(laboratory, { text }, isOpen, toggled) {
     const rows = h("div", { class: "rows", tabindex: "0", role: "group", "aria-label": text("rows") });
-    const node = h("details", { class: "part turns", open: isOpen }, h("summary", {}, text("rows")), h("p", { class: "key" }, h("code", {}, text("rowsKey"))), rows);
+    const node = h(
+        "details",
+        { class: "part turns", open: isOpen },
+        h("summary", {}, text("rows")),
+        h("p", { class: "key" }, h("code", {}, text("rowsKey"))),
+        rows
+    );
     const show = () => rows.replaceChildren(...(node.open ? laboratory.rows : []).slice(-ROWS_SHOWN).map(rowOf));
     node.addEventListener("toggle", () => {
         toggled(node.open);

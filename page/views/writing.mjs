@@ -6,9 +6,17 @@ import { button, guarded, h, part, showLive } from "./dom.mjs";
 const LOGGED = 80;
 const REPLY_SHOWN = 20_000;
 
-/** A box for lines to the monitor, with its name and that of its draft: lines that were sent come back by the arrow keys, and several may be pasted. */
+/**
+ * A box for lines to the monitor, with its name and that of its draft: lines that were sent come back by the arrow keys, and several may be
+ * pasted.
+ */
 export function makeLineBox(laboratory, { text }, drafts, name, draft) {
-    const input = drafts.held(h("input", { class: "wide", "aria-label": name, placeholder: "words 0050 2", autocapitalize: "off", autocomplete: "off", spellcheck: "false" }), draft);
+    const input = drafts.held(
+        h("input", {
+            class: "wide", "aria-label": name, placeholder: "words 0050 2", autocapitalize: "off", autocomplete: "off", spellcheck: "false",
+        }),
+        draft
+    );
     const { history } = drafts;
     const write = (line) => {
         input.value = line;
@@ -54,7 +62,16 @@ export function makeLines(laboratory, texts, drafts) {
         }
         const young = talk.filter((said) => !shown.has(said));
         for (const said of young) {
-            shown.set(said, h("span", {}, h("b", {}, `${said.line}\n`), said.reply.slice(0, REPLY_SHOWN), said.reply.length > REPLY_SHOWN ? `…\n${text("replyLength", { count: counted(said.reply.length, code) })}\n` : ""));
+            shown.set(
+                said,
+                h(
+                    "span",
+                    {},
+                    h("b", {}, `${said.line}\n`),
+                    said.reply.slice(0, REPLY_SHOWN),
+                    said.reply.length > REPLY_SHOWN ? `…\n${text("replyLength", { count: counted(said.reply.length, code) })}\n` : ""
+                )
+            );
             log.append(shown.get(said));
         }
         if (young.length > 0) requestAnimationFrame(() => { log.scrollTop = log.scrollHeight; });
@@ -73,7 +90,11 @@ export function makeScript(laboratory, { text }) {
         const { script } = laboratory;
         node.hidden = script === null;
         if (script === null) return;
-        list.replaceChildren(...script.lines.map((line, place) => h("span", { class: place < script.at ? "done" : place === script.at ? "now" : "" }, `${line}\n`)));
+        list.replaceChildren(
+            ...script.lines.map((line, place) => (
+                h("span", { class: place < script.at ? "done" : place === script.at ? "now" : "" }, `${line}\n`)
+            ))
+        );
         const now = list.querySelector(".now");
         if (now !== null) list.scrollTop = now.offsetTop - list.clientHeight / 2;
         told.textContent = text("scriptAt", { at: script.at, of: script.lines.length });

@@ -1,5 +1,6 @@
 // Answers scripts by the module as the proofs leave it and by the lowered one, and compares: the status, the length of the replies, and the
-// room for them byte for byte, up to its end and some bytes beyond. Each line of standard input is a case of tools/bench/lowered.py, in JSON: the script, the
+// room for them byte for byte, up to its end and some bytes beyond. Each line of standard input is a case of tools/bench/lowered.py, in
+// JSON: the script, the
 // bytes of the room for replies and those of the memory handed over, and perhaps the replies that another program gives.
 //
 //     node --experimental-wasm-memory64 tools/bench/lowered.mjs page/lgp_c_region64.wasm libraries/javascript/lgp_c_region.wasm < cases
@@ -61,7 +62,12 @@ class Side {
     /** A script line by line in a session, each reply given twice. */
     * lines(script, room, region) {
         this.#hand(region);
-        yield { status: this.exports.lgp_open_in(BigInt(this.handed), BigInt(this.session)), outcome: [], written: Buffer.alloc(0), isCut: false };
+        yield {
+            status: this.exports.lgp_open_in(BigInt(this.handed), BigInt(this.session)),
+            outcome: [],
+            written: Buffer.alloc(0),
+            isCut: false,
+        };
         for (const line of script.toString("latin1").split("\n")) {
             yield this.#left("lgp_answer_in", room, this.session, ...this.#write(Buffer.from(line.slice(0, 4097), "latin1")));
             yield this.#left("lgp_reply_in", room, this.session);
@@ -70,7 +76,9 @@ class Side {
     }
 }
 
-const isSame = (one, other) => one.status === other.status && String(one.outcome) === String(other.outcome) && one.written.equals(other.written);
+const isSame = (one, other) => (
+    one.status === other.status && String(one.outcome) === String(other.outcome) && one.written.equals(other.written)
+);
 const [wide, lowered] = process.argv.slice(2).map((path) => new Side(path));
 const count = { cases: 0, lines: 0, roomEnds: 0, memoryEnds: 0, differ: 0 };
 
@@ -80,7 +88,13 @@ function compare(one, other, script) {
     count.memoryEnds += one.status === NO_MEMORY;
     if (isSame(one, other)) return;
     count.differ += 1;
-    if (count.differ <= 5) console.error(`tools/bench/lowered: status ${one.status} and ${other.status}, outcome ${one.outcome} and ${other.outcome}: ${JSON.stringify(script.toString("latin1").slice(0, 300))}`);
+    if (count.differ <= 5) {
+        console.error(
+            `tools/bench/lowered: status ${one.status} and ${other.status}, outcome ${one.outcome} and ${other.outcome}: ${JSON.stringify(
+                script.toString("latin1").slice(0, 300)
+            )}`
+        );
+    }
 }
 
 for await (const text of createInterface({ input: process.stdin })) {
@@ -88,7 +102,9 @@ for await (const text of createInterface({ input: process.stdin })) {
     const bytes = Buffer.from(script, "base64");
     const whole = lowered.whole(bytes, room, region);
     compare(wide.whole(bytes, room, region), whole, bytes);
-    if (replies !== undefined) compare({ ...whole, written: Buffer.concat([Buffer.from(replies, "base64"), Buffer.alloc(MARGIN, UNTOUCHED)]) }, whole, bytes);
+    if (replies !== undefined) {
+        compare({ ...whole, written: Buffer.concat([Buffer.from(replies, "base64"), Buffer.alloc(MARGIN, UNTOUCHED)]) }, whole, bytes);
+    }
     const other = lowered.lines(bytes, room, region);
     for (const one of wide.lines(bytes, room, region)) {
         count.lines += 1;
@@ -96,5 +112,7 @@ for await (const text of createInterface({ input: process.stdin })) {
     }
     count.cases += 1;
 }
-console.log(`${count.cases} scripts, ${count.lines} calls of sessions, ${count.roomEnds} replies cut off by the room's end, ${count.memoryEnds} by memory's end: ${count.differ} differ`);
+console.log(
+    `${count.cases} scripts, ${count.lines} calls of sessions, ${count.roomEnds} replies cut off by the room's end, ${count.memoryEnds} by memory's end: ${count.differ} differ`
+);
 process.exitCode = count.differ === 0 && count.roomEnds > 0 && count.memoryEnds > 0 ? 0 : 1;

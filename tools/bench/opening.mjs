@@ -1,6 +1,9 @@
-// How long unpacking the page takes in node, in processor time, the best of some turns. How long the page takes to open in Chromium, from the
-// beginning of its navigation: until something is painted, until its door can be used, and what of that is unpacking, the median of some openings;
-// other work on the machine makes these times longer. And how much memory the kiosk holds after some rounds of an exhibit, and after many more.
+// How long unpacking the page takes in node, in processor time, the best of some turns. How long the page takes to open in Chromium, from
+// the
+// beginning of its navigation: until something is painted, until its door can be used, and what of that is unpacking, the median of some
+// openings;
+// other work on the machine makes these times longer. And how much memory the kiosk holds after some rounds of an exhibit, and after many
+// more.
 // No part of the check.
 //
 //     node tools/bench/opening.mjs [page/laboratory.html]

@@ -1,5 +1,7 @@
-// What replies for programs cost. By the module in node: `json source-data` of a source of 4,000 lines, `look`, and an order with its account.
-// By the proved monitor, where ./prove lgp30m has made it and valgrind is installed: the instructions of `trace-data 1`, as lines and as JSON, of
+// What replies for programs cost. By the module in node: `json source-data` of a source of 4,000 lines, `look`, and an order with its
+// account.
+// By the proved monitor, where ./prove lgp30m has made it and valgrind is installed: the instructions of `trace-data 1`, as lines and as
+// JSON, of
 // `run 1` and of two comments, after 5,000 orders, so that 4,096 steps are kept: 2,000 lines less 1,000.
 //
 //     node tools/bench/replies.mjs
@@ -37,7 +39,12 @@ function session(lines) {
 }
 
 /** A source of 4,000 lines, each with a label and an operand that is one. */
-const source = ["source", ...Array.from({ length: LINES - 2 }, (unused, line) => `l${line} b l${(line * 7) % (LINES - 2)} ; a word of line ${line}`), " end l0", "."];
+const source = [
+    "source",
+    ...Array.from({ length: LINES - 2 }, (unused, line) => `l${line} b l${(line * 7) % (LINES - 2)} ; a word of line ${line}`),
+    " end l0",
+    ".",
+];
 
 function sourceData() {
     const it = session(source);
@@ -56,7 +63,9 @@ function afterEach(line) {
 /** The instructions of the monitor for the loop, 5,000 orders, and a line so many times. */
 function instructions(line, times) {
     const input = [...loop, "run 5000", ...Array.from({ length: times }, () => line), ""].join("\n");
-    const { stderr } = spawnSync("valgrind", ["--tool=callgrind", "--callgrind-out-file=/dev/null", program], { input, encoding: "utf8", maxBuffer: 1 << 28 });
+    const { stderr } = spawnSync(
+        "valgrind", ["--tool=callgrind", "--callgrind-out-file=/dev/null", program], { input, encoding: "utf8", maxBuffer: 1 << 28 }
+    );
     return Number(/Collected : *([0-9]+)/.exec(stderr)?.[1]);
 }
 
@@ -64,4 +73,10 @@ console.log(`source-data of ${LINES} lines: ${sourceData().toFixed(1)} ms by the
 console.log(`a look at 64 words: ${afterEach("json look 0000 64 0").toFixed(2)} ms by the module`);
 console.log(`an order with its account: ${afterEach("json trace-data 1").toFixed(2)} ms by the module`);
 if (!existsSync(program)) console.log("trace-data: ./prove lgp30m makes the program whose instructions are counted");
-else for (const line of ["trace-data 1", "json trace-data 1", "run 1", ";", "; of twenty-one bytes"]) console.log(`${line}: ${Math.round((instructions(line, 2000) - instructions(line, 1000)) / 1000).toLocaleString("en")} instructions by the monitor`);
+else for (const line of ["trace-data 1", "json trace-data 1", "run 1", ";", "; of twenty-one bytes"]) {
+    console.log(
+        `${line}: ${Math.round(
+            (instructions(line, 2000) - instructions(line, 1000)) / 1000
+        ).toLocaleString("en")} instructions by the monitor`
+    );
+}

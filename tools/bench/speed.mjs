@@ -1,4 +1,5 @@
-// How many orders a second: of the proved program, where ./prove has made it; of sessions in node, with the module as the proofs leave it and
+// How many orders a second: of the proved program, where ./prove has made it; of sessions in node, with the module as the proofs leave it
+// and
 // with the lowered one; and of the page, in each engine.
 //
 //     node tools/bench/speed.mjs [--write] [MILLIONS OF ORDERS, 100 where none is said]
@@ -14,7 +15,10 @@ import "./wide_memory.mjs";
 
 const top = join(dirname(fileURLToPath(import.meta.url)), "../..");
 const program = join(top, "crates/lgp30/out/lgp30");
-const modules = { "node, the module as the proofs leave it": join(top, "page/lgp_c_region64.wasm"), "node, the lowered module": join(top, "libraries/javascript/lgp_c_region.wasm") };
+const modules = {
+    "node, the module as the proofs leave it": join(top, "page/lgp_c_region64.wasm"),
+    "node, the lowered module": join(top, "libraries/javascript/lgp_c_region.wasm"),
+};
 const TURNS = 3;
 const FLAG = "--experimental-wasm-memory64"; // node 20 has memory64 by this flag, which later ones lack
 
@@ -54,7 +58,9 @@ function runSession(path, orders) {
 /** The page's orders a second in an engine, as its visit tells them; NaN where it does not. */
 function pageSpeed(engine) {
     const env = { ...process.env, ENGINE: engine, VISITS: "longRun", LEAST_SPEED: "0" };
-    const { stdout } = spawnSync(process.execPath, [join(top, "page/tests/visit.mjs"), join(top, "page/laboratory.html")], { env, encoding: "utf8" });
+    const { stdout } = spawnSync(
+        process.execPath, [join(top, "page/tests/visit.mjs"), join(top, "page/laboratory.html")], { env, encoding: "utf8" }
+    );
     const [, speed] = /^longRun: well, (\d+)/m.exec(stdout) ?? [];
     console.log(`the page in ${engine}: ${speed === undefined ? stdout.trim() : `${millions(Number(speed))} million orders a second`}`);
     return Number(speed);
@@ -66,7 +72,9 @@ function speeds(orders) {
     const asked = (line) => seconds(() => spawnSync(program, { input: input(line) }));
     const found = [];
     if (existsSync(program)) found.push(["the program", told("the program", orders, () => asked(`run ${orders}`) - asked("run 1"))]);
-    for (const [name, path] of Object.entries(modules)) if (existsSync(path)) found.push([name, told(name, orders, () => sessionSeconds(path, orders))]);
+    for (const [name, path] of Object.entries(modules)) {
+        if (existsSync(path)) found.push([name, told(name, orders, () => sessionSeconds(path, orders))]);
+    }
     for (const engine of ["chromium", "firefox", "webkit"]) found.push([`the page in ${engine}`, pageSpeed(engine)]);
     return found;
 }

@@ -37,12 +37,18 @@ async function ends(pid, seconds = 10) {
     return !isAlive(pid);
 }
 
-for (const [name, end] of [["killed within a long line", (front) => front.kill("SIGKILL")], ["ended within a long line", (front) => front.kill("SIGTERM")], ["left", (front) => front.stdin.write("\n")]]) {
+for (const [name, end] of [
+    ["killed within a long line", (front) => front.kill("SIGKILL")],
+    ["ended within a long line", (front) => front.kill("SIGTERM")],
+    ["left", (front) => front.stdin.write("\n")],
+]) {
     test(`the program ends where its front is ${name}`, async () => {
         const folder = mkdtempSync(join(tmpdir(), "engine-"));
         const program = join(folder, "stand-in");
         writeFileSync(program, STAND_IN, { mode: 0o755 });
-        const front = spawn("node", ["--input-type=module", "-e", FRONT, program, name === "left" ? "" : "busy"], { stdio: ["pipe", "pipe", "inherit"] });
+        const front = spawn(
+            "node", ["--input-type=module", "-e", FRONT, program, name === "left" ? "" : "busy"], { stdio: ["pipe", "pipe", "inherit"] }
+        );
         const pid = Number(await new Promise((resolve) => front.stdout.once("data", resolve)));
         try {
             assert.ok(isAlive(pid));

@@ -14,7 +14,10 @@ import { Shelf } from "../shelf.mjs";
 const module = compiled(readFileSync(new URL("../lgp_c_region.wasm", import.meta.url)));
 const open = () => new Session(module, 2 ** 22);
 
-/** What is shown while lines are typed to an engine that may be spoiled, the questions that were asked of it, and the sessions that are kept. */
+/**
+ * What is shown while lines are typed to an engine that may be spoiled, the questions that were asked of it, and the sessions that are
+ * kept.
+ */
 async function sat(lines, spoil = () => {}) {
     const folder = mkdtempSync(join(tmpdir(), "front-"));
     const engine = new ModuleEngine(open(), open);
@@ -33,10 +36,14 @@ async function sat(lines, spoil = () => {}) {
     let shown = "";
     const write = (text) => (shown += text);
     const shelf = new Shelf(folder);
-    const front = new Front({ engine, keyboard, shelf, aliases: new Aliases(join(folder, "aliases")), write, hasColour: false, isPlain: false, columns: () => 100 });
+    const front = new Front({
+        engine, keyboard, shelf, aliases: new Aliases(join(folder, "aliases")), write, hasColour: false, isPlain: false, columns: () => 100,
+    });
     try {
         await front.sit();
-        return { shown, asked, kept: readdirSync(join(folder, "sessions")).map((name) => readFileSync(join(folder, "sessions", name), "utf8")) };
+        return {
+            shown, asked, kept: readdirSync(join(folder, "sessions")).map((name) => readFileSync(join(folder, "sessions", name), "utf8")),
+        };
     } finally {
         rmSync(folder, { recursive: true });
     }
@@ -73,6 +80,11 @@ test("the transcript is asked for at the end, and not for each line", async () =
 });
 
 test("what is kept is the transcript, also of lines that mean others", async () => {
-    const { kept } = await sat(["source", "loop z", " end loop", ".", "go loop", "s", "panel", "put *+3 loop", "break loop+2", "back", "press manual", "put *+3 u loop"]);
-    assert.deepEqual(kept, ["source\nloop z\n end loop\n.\npress manual\ntype 000f0000\npress fill\npress oneop\npress execute\norders 1\npress normal\npress start\nrun 1\npanel\nput *+3 loop\nbreak 0002\nback 1\npress manual\nput 0003 000f0000\n"]);
+    const { kept } = await sat([
+        "source", "loop z", " end loop", ".", "go loop", "s", "panel", "put *+3 loop", "break loop+2", "back", "press manual",
+        "put *+3 u loop",
+    ]);
+    assert.deepEqual(kept, [
+        "source\nloop z\n end loop\n.\npress manual\ntype 000f0000\npress fill\npress oneop\npress execute\norders 1\npress normal\npress start\nrun 1\npanel\nput *+3 loop\nbreak 0002\nback 1\npress manual\nput 0003 000f0000\n",
+    ]);
 });

@@ -32,7 +32,9 @@ test("help names each command, and each group has one screen", async () => {
 
 test("each form of a command is in a line of its own, as it is typed", async () => {
     const forms = async (command) => (await help.about(command)).filter((line) => line.startsWith(command));
-    assert.deepEqual(await forms("put"), ["put ttss WORD", "put ttss FRACTION", "put ttss = NUMBER", "put ttss = NUMBER POINT", "put ttss OPERATION"]);
+    assert.deepEqual(
+        await forms("put"), ["put ttss WORD", "put ttss FRACTION", "put ttss = NUMBER", "put ttss = NUMBER POINT", "put ttss OPERATION"]
+    );
     assert.deepEqual([await forms("transcript"), await forms("panel")], [["transcript", "transcript FILE"], ["panel"]]);
     assert.deepEqual((await help.about("change")).slice(0, 2), ["change ttss WORD", "and each other form of put"]);
 });
@@ -51,7 +53,9 @@ test("each command has an example that is not refused, with a reply but where it
     }
 });
 
-const AFTER = { "    after the lines that help example shows:": [], "    after the lines that help example shows, and press manual:": ["press manual"] };
+const AFTER = {
+    "    after the lines that help example shows:": [], "    after the lines that help example shows, and press manual:": ["press manual"],
+};
 
 test("an example is exact for the lines that are said to come before it", async () => {
     const before = (await help.about("example")).slice(1).map((line) => line.slice(4));
@@ -78,18 +82,33 @@ test("at a terminal go and trace are shown as the terminal shows them", async ()
 });
 
 test("short words, operations, faults, and what an address is have help", async () => {
-    for (const [word, wanted] of [["s", /^s is short for step\n/], ["c", /short for run\n[^]*the operation c;/], ["b", /short for back\n[^]*the operation b;/], ["n", /twice their\n? *product/],
-        ["int", /the operation int/], ["BadOperand", /^the fault BadOperand\n/], ["ttss", /two digits for the track/], ["address", /table\+3/]]) {
+    for (const [word, wanted] of [
+        ["s", /^s is short for step\n/],
+        ["c", /short for run\n[^]*the operation c;/],
+        ["b", /short for back\n[^]*the operation b;/],
+        ["n", /twice their\n? *product/],
+        ["int", /the operation int/],
+        ["BadOperand", /^the fault BadOperand\n/],
+        ["ttss", /two digits for the track/],
+        ["address", /table\+3/]
+    ]) {
         assert.match((await help.about(word))?.join("\n") ?? "", wanted, word);
     }
     const language = (await help.about("source")).join(" ").replace(/ +/g, " ");
-    for (const part of ["* for the line's own place", "loop+1", "p =a", "one to eight", "4,096 bytes"]) assert.ok(language.includes(part), part);
+    for (const part of ["* for the line's own place", "loop+1", "p =a", "one to eight", "4,096 bytes"]) {
+        assert.ok(language.includes(part), part);
+    }
 });
 
 test("what is said of n and m is so", () => {
     const product = (operation, point) => {
         const session = open();
-        for (const line of [`put 0100 = 6 ${point}`, `put 0101 = 7 ${point}`, "put 0000 b 0100", `put 0001 ${operation} 0101`, "put 0002 h 0110", "go 0000", "run 3"]) session.answer(line);
+        for (const line of [
+            `put 0100 = 6 ${point}`, `put 0101 = 7 ${point}`, "put 0000 b 0100", `put 0001 ${operation} 0101`, "put 0002 h 0110", "go 0000",
+            "run 3",
+        ]) {
+            session.answer(line);
+        }
         return session.answer("numbers 0110 1").trim().split(/ +/).at(-1);
     };
     assert.deepEqual([product("n", 30), product("m", 15)], ["84", "42"]);
@@ -114,7 +133,9 @@ test("no line of help is wider than 80 columns but the replies of the monitor", 
     for (const word of words) {
         const lines = await narrow.about(word);
         const place = lines.findIndex((line) => line.startsWith("    > "));
-        const said = place < 0 ? lines : [...lines.slice(0, place + 1), ...lines.slice(lines.indexOf("", place) < 0 ? lines.length : lines.indexOf("", place))];
+        const said = place < 0
+            ? lines
+            : [...lines.slice(0, place + 1), ...lines.slice(lines.indexOf("", place) < 0 ? lines.length : lines.indexOf("", place))];
         assert.deepEqual(said.filter((line) => line.length > 80), [], word);
     }
 });

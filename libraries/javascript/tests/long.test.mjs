@@ -20,7 +20,9 @@ function opened(...lines) {
 async function inPortions(call, ...lines) {
     const session = opened(...lines);
     let written = "";
-    const long = new LongLines({ type: async (line) => session.answer(line), isInterrupted: () => false, write: (text) => (written += text) });
+    const long = new LongLines({
+        type: async (line) => session.answer(line), isInterrupted: () => false, write: (text) => (written += text),
+    });
     const last = await call(long);
     return { text: written + last, state: session.answer("json state-data") };
 }
@@ -38,7 +40,11 @@ test("a trace and a drawing of the drum, of several portions and of less than on
     for (const command of ["trace", "drum"]) {
         for (const limit of [1, 999, 1000, 1001, 3333]) {
             for (const lines of [[], LOOP, [...LOOP, "watch first"], [...LOOP, "break 0003"]]) {
-                assert.deepEqual(await inPortions((long) => long.tell(command, limit), ...lines), atOnce(`${command} ${limit}`, ...lines), `${command} ${limit} ${lines}`);
+                assert.deepEqual(
+                    await inPortions((long) => long.tell(command, limit), ...lines),
+                    atOnce(`${command} ${limit}`, ...lines),
+                    `${command} ${limit} ${lines}`
+                );
             }
         }
     }
@@ -52,12 +58,16 @@ test("runs, and runs that are started again", async () => {
     for (const limit of [1, 4, 1000, 1001, 2500]) {
         for (const lines of [[], LOOP, HAND("put 0005 z"), ["break 0003"], HAND("put 0005 u 0007")]) {
             const [found, wanted] = [await inPortions((long) => long.operate(limit), ...lines), atOnce(`operate ${limit}`, ...lines)];
-            assert.deepEqual([found.text, JSON.parse(found.state).clock], [wanted.text, JSON.parse(wanted.state).clock], `operate ${limit} ${lines}`);
+            assert.deepEqual(
+                [found.text, JSON.parse(found.state).clock], [wanted.text, JSON.parse(wanted.state).clock], `operate ${limit} ${lines}`
+            );
         }
     }
     for (const more of ["", " until 0003", " until value < 0", " until printed 9", " until 0006 = 100000"]) {
         for (const lines of [LOOP, [...LOOP, "break 0003"]]) {
-            const [found, wanted] = [await inPortions((long) => long.run("run", 345_678, more), ...lines), atOnce(`run 345678${more}`, ...lines)];
+            const [found, wanted] = [
+                await inPortions((long) => long.run("run", 345_678, more), ...lines), atOnce(`run 345678${more}`, ...lines),
+            ];
             assert.deepEqual([found.text, JSON.parse(found.state).clock], [wanted.text, JSON.parse(wanted.state).clock], more);
         }
     }

@@ -1,4 +1,5 @@
-// The moments of a session: whatever was done, a line that is asked at an order is answered as in a second laboratory that never went further.
+// The moments of a session: whatever was done, a line that is asked at an order is answered as in a second laboratory that never went
+// further.
 import assert from "node:assert/strict";
 import { readFileSync } from "node:fs";
 import { test } from "node:test";
@@ -19,17 +20,32 @@ function chance(seed) {
 }
 
 const ORDERS = "zbyrdnmpieuthacs".split("");
-const BUTTONS = ["start", "manual", "normal", "oneop", "clear", "fill", "execute", "compute", "read", "bp32 down", "bp32 up", "transfer down", "sixbit down"];
-const SOURCE = ["source", "first b count", " a one", " h count", " p =a", " i 0000", " u first", "count int 3 30", "one int 1 30", " end first", "."];
+const BUTTONS = [
+    "start", "manual", "normal", "oneop", "clear", "fill", "execute", "compute", "read", "bp32 down", "bp32 up", "transfer down",
+    "sixbit down",
+];
+const SOURCE = [
+    "source", "first b count", " a one", " h count", " p =a", " i 0000", " u first", "count int 3 30", "one int 1 30", " end first", ".",
+];
 
 /** A line, or several, of a person who tries everything. */
 function typed(by) {
     const address = () => `00${String(by.below(24)).padStart(2, "0")}`;
     const kinds = [
-        () => [`put ${address()} ${by.of(ORDERS)} ${address()}`], () => [`put ${address()} = ${by.below(1000)}`], () => [`press ${by.of(BUTTONS)}`],
-        () => [`type ${by.of(["1", "0000fff0", "a", "'", "u0004"])}`], () => [`mount ${by.of(["12'34'", "abc", "0"])}`], () => [`turn ${by.below(99)}`],
-        () => [`run ${by.below(60)}`], () => [`orders ${by.below(60)}`], () => [`run ${by.below(300)}`], () => [`back ${by.below(4)}`], () => ["last"],
-        () => [`break ${address()}`], () => [`watch ${address()}`], () => ["drop 0"], () => ["load"], () => SOURCE, () => ["press manual", "press normal", "press start"],
+        () => [`put ${address()} ${by.of(ORDERS)} ${address()}`],
+        () => [`put ${address()} = ${by.below(1000)}`],
+        () => [`press ${by.of(BUTTONS)}`],
+        () => [`type ${by.of(["1", "0000fff0", "a", "'", "u0004"])}`],
+        () => [`mount ${by.of(["12'34'", "abc", "0"])}`],
+        () => [`turn ${by.below(99)}`],
+        () => [`run ${by.below(60)}`], () => [`orders ${by.below(60)}`], () => [`run ${by.below(300)}`], () => [`back ${by.below(4)}`],
+        () => ["last"],
+        () => [`break ${address()}`],
+        () => [`watch ${address()}`],
+        () => ["drop 0"],
+        () => ["load"],
+        () => SOURCE,
+        () => ["press manual", "press normal", "press start"],
         () => ["; a note"], () => ["no such command"], () => ["panel"], () => [`go ${address()}`], () => [`run 80 until ${address()}`],
     ];
     return by.of(kinds)();
@@ -65,11 +81,17 @@ function before(done, order) {
     return laboratory;
 }
 
-const ASKED = ["transcript", "panel", "dump", "printed", "rules", "labels", "why 0003", "json state-data", "json tape-data", "json paper-data 0", "words 0000 24"];
+const ASKED = [
+    "transcript", "panel", "dump", "printed", "rules", "labels", "why 0003", "json state-data", "json tape-data", "json paper-data 0",
+    "words 0000 24",
+];
 /** Lines that do something, each in a laboratory of its own. */
 const DONE = ["trace 9", "back 2", "last"];
 
-/** A session of lines by chance. A jump may begin within `go`, which is one line here and eight in a script, so that its order is not asked for. */
+/**
+ * A session of lines by chance. A jump may begin within `go`, which is one line here and eight in a script, so that its order is not asked
+ * for.
+ */
 function session(seed) {
     const [by, laboratory, done, held] = [chance(seed), new Laboratory(module), [], new Set()];
     let count = 0;
@@ -92,7 +114,9 @@ test("a session's moments are those of a laboratory that never went further", ()
         for (const order of [0, count, ...Array.from({ length: MOMENTS }, () => by.below(count + 1))].filter((one) => !held.has(one))) {
             const others = [ASKED, ...DONE.map((line) => [line])].map((lines) => ({ lines, other: before(done, order) }));
             for (const { line, other } of others.flatMap(({ lines, other }) => lines.map((line) => ({ line, other })))) {
-                assert.equal(answered(laboratory, `at ${order} ${line}`), answered(other, line), `session ${seed}, order ${order}: ${line}`);
+                assert.equal(
+                    answered(laboratory, `at ${order} ${line}`), answered(other, line), `session ${seed}, order ${order}: ${line}`
+                );
                 compared += 1;
             }
             for (const { other } of others) other.close();

@@ -42,7 +42,9 @@ inLaboratory("words come in the order of their addresses", (laboratory) => {
 
 inLaboratory("a program is run and taken back", (laboratory) => {
     laboratory.answers(LOOP);
-    assert.deepEqual(laboratory.run(10), { orders: 2, end: "rest", rule: null, isMet: null, state: "a stop order halted the machine: press start to continue" });
+    assert.deepEqual(laboratory.run(10), {
+        orders: 2, end: "rest", rule: null, isMet: null, state: "a stop order halted the machine: press start to continue",
+    });
     assert.equal(laboratory.panel().accumulator, "0000000f");
     assert.equal(typeof laboratory.back(1), "bigint");
     assert.equal(laboratory.panel().counter, "0101");
@@ -52,7 +54,9 @@ inLaboratory("a run is told", (laboratory) => {
     laboratory.answers(LOOP);
     const { clock } = laboratory.panel();
     const [bring, stop] = laboratory.trace(10);
-    assert.deepEqual([bring.clock, bring.at, bring.order, bring.after, stop.at, stop.order], [clock, "0100", "b 0102", "0000000f", "0101", "z 0000"]);
+    assert.deepEqual(
+        [bring.clock, bring.at, bring.order, bring.after, stop.at, stop.order], [clock, "0100", "b 0102", "0000000f", "0101", "z 0000"]
+    );
     assert.equal(stop.clock, bring.clock + BigInt(bring.cost));
     assert.equal(laboratory.back(2), clock);
     const profile = laboratory.profile(10);
@@ -64,7 +68,9 @@ inLaboratory("a run is told", (laboratory) => {
 
 inLaboratory("the paper has capital letters after upper case, and tab stops", (laboratory) => {
     assert.equal(laboratory.paper(), "");
-    laboratory.answers(["p 0800", "p =1", "p 1600", "p 0400", "p =1", "p 2400", "p =0", "z"].map((order, place) => `put 000${place} ${order}`).join("\n"));
+    laboratory.answers(
+        ["p 0800", "p =1", "p 1600", "p 0400", "p =1", "p 2400", "p =0", "z"].map((order, place) => `put 000${place} ${order}`).join("\n")
+    );
     laboratory.answer("press start");
     laboratory.run(10);
     assert.equal(laboratory.paper(), "L\n1       0");
@@ -72,7 +78,9 @@ inLaboratory("the paper has capital letters after upper case, and tab stops", (l
 
 inLaboratory("a rule stops a run", (laboratory) => {
     laboratory.answers("put 0100 u 0100\nbreak 0100\ngo 0100");
-    assert.deepEqual(laboratory.run(10), { orders: 1, end: "rule", rule: 0, isMet: null, state: "the machine is still going: use run to continue, or press manual to halt it" });
+    assert.deepEqual(laboratory.run(10), {
+        orders: 1, end: "rule", rule: 0, isMet: null, state: "the machine is still going: use run to continue, or press manual to halt it",
+    });
 });
 
 inLaboratory("a run waits for a condition", (laboratory) => {
@@ -98,7 +106,9 @@ inLaboratory("a told run that the clock breaks off is refused", (laboratory) => 
 
 inLaboratory("any bytes and long lines are answered, and a line has no line feed", (laboratory) => {
     assert.throws(() => laboratory.answer("panel\npanel"), RangeError);
-    assert.throws(() => laboratory.answer(Uint8Array.from({ length: 256 }, (unused, byte) => byte).filter((byte) => byte !== 10)), refused("Form"));
+    assert.throws(
+        () => laboratory.answer(Uint8Array.from({ length: 256 }, (unused, byte) => byte).filter((byte) => byte !== 10)), refused("Form")
+    );
     assert.throws(() => laboratory.answer("put ".padEnd(10_000, "x")), refused("TooLong"));
 });
 
@@ -131,17 +141,28 @@ test("the longest reply to an end is whole", { skip }, () => {
 
 test("memory that ends closes a laboratory", { skip }, () => {
     const laboratory = new Laboratory(bytes, { region: 2 ** 20 });
-    assert.throws(() => { for (;;) laboratory.answer("panel"); }, (failure) => failure instanceof NoMemory && failure.message === "there is not enough memory for this line");
+    assert.throws(
+        () => { for (;;) laboratory.answer("panel"); },
+        (failure) => failure instanceof NoMemory && failure.message === "there is not enough memory for this line"
+    );
     assert.throws(() => laboratory.panel(), /^Error: the laboratory is closed$/);
-    assert.throws(() => new Laboratory(bytes, { region: 2 ** 16 }), (failure) => failure instanceof NoMemory && failure.message === "there is not enough memory to open a laboratory");
+    assert.throws(
+        () => new Laboratory(bytes, { region: 2 ** 16 }),
+        (failure) => failure instanceof NoMemory && failure.message === "there is not enough memory to open a laboratory"
+    );
 });
 
 test("memory that cannot grow is told", { skip }, () => {
-    assert.throws(() => new Laboratory(bytes, { region: 2 ** 40 }), (failure) => failure instanceof NoMemory && /^there is not enough memory: /.test(failure.message));
+    assert.throws(
+        () => new Laboratory(bytes, { region: 2 ** 40 }),
+        (failure) => failure instanceof NoMemory && /^there is not enough memory: /.test(failure.message)
+    );
 });
 
 test("bytes that are no module are told", { skip }, () => {
-    const told = (source, message) => assert.throws(() => new Laboratory(source), (failure) => failure instanceof NoModule && message.test(failure.message));
+    const told = (source, message) => (
+        assert.throws(() => new Laboratory(source), (failure) => failure instanceof NoModule && message.test(failure.message))
+    );
     told(new Uint8Array(), /^these bytes are not a module that can be used here: /);
     told(bytes.subarray(0, 1000), /^these bytes are not a module that can be used here: /);
     told("lgp_c_region.wasm", /^these bytes are not a module that can be used here: /);
@@ -153,7 +174,10 @@ test("a browser without WebAssembly or BigInt is told", { skip }, () => {
         const kept = globalThis[name];
         delete globalThis[name];
         try {
-            assert.throws(() => new Laboratory(bytes), (failure) => failure instanceof NoModule && failure.message === "there is no WebAssembly here, or no BigInt");
+            assert.throws(
+                () => new Laboratory(bytes),
+                (failure) => failure instanceof NoModule && failure.message === "there is no WebAssembly here, or no BigInt"
+            );
         } finally {
             globalThis[name] = kept;
         }
@@ -176,7 +200,9 @@ test("scripts are answered whole", { skip }, () => {
 
 const examples = readdirSync(shelf, { recursive: true }).map(String).filter((name) => name.endsWith(".txt"));
 for (const name of examples) test(`${name} is answered to the byte`, { skip }, () => {
-    assert.equal(runScript(bytes, readFileSync(join(shelf, name))).text, readFileSync(join(shelf, name.replace(/txt$/, "expected")), "utf8"));
+    assert.equal(
+        runScript(bytes, readFileSync(join(shelf, name))).text, readFileSync(join(shelf, name.replace(/txt$/, "expected")), "utf8")
+    );
 });
 
 test("the types name what is there", () => {
@@ -214,7 +240,11 @@ test("the types of each record name its fields, and no others", { skip }, async 
 
 const tsc = spawnSync("tsc", ["--version"]).error === undefined;
 test("a program with types is taken, and one with wrong types is not", { skip: !tsc }, () => {
-    const { stdout } = spawnSync("tsc", ["--noEmit", "--strict", "--target", "es2022", "--module", "node16", "--moduleResolution", "node16", join(here, "types.mts")], { encoding: "utf8" });
+    const { stdout } = spawnSync(
+        "tsc",
+        ["--noEmit", "--strict", "--target", "es2022", "--module", "node16", "--moduleResolution", "node16", join(here, "types.mts")],
+        { encoding: "utf8" }
+    );
     assert.equal(stdout, "");
 });
 
@@ -223,14 +253,18 @@ test("docs/EMBEDDING.md shows what the package does", { skip }, () => {
     const [, block] = /((?: {4}.*\n|\n)*? {4}import \{ Laboratory \} from "condugwa";\n(?: {4}.*\n|\n)*)/.exec(page);
     const program = block.replace(/^ {4}/gm, "");
     const wanted = [...program.matchAll(/\/\/ (.*)$/gm)].map(([, shown]) => shown);
-    const { stdout, stderr } = spawnSync(process.execPath, ["--input-type=module", "-e", program], { encoding: "utf8", cwd: join(here, "..") });
+    const { stdout, stderr } = spawnSync(
+        process.execPath, ["--input-type=module", "-e", program], { encoding: "utf8", cwd: join(here, "..") }
+    );
     assert.equal(stderr, "");
     assert.deepEqual(stdout.trimEnd().split("\n"), wanted);
 });
 
 test("the README shows what the package does", { skip }, () => {
     const [, program] = /```js\n([^]*?)```/.exec(readFileSync(join(here, "../README.md"), "utf8"));
-    const { stdout, stderr } = spawnSync(process.execPath, ["--input-type=module", "-e", program], { encoding: "utf8", cwd: join(here, "..") });
+    const { stdout, stderr } = spawnSync(
+        process.execPath, ["--input-type=module", "-e", program], { encoding: "utf8", cwd: join(here, "..") }
+    );
     assert.equal(stderr, "");
     assert.equal(stdout, `${/\/\/ (.*)/.exec(program)[1]}\n`);
 });
@@ -239,11 +273,21 @@ const esbuild = spawnSync("esbuild", ["--version"]).error === undefined;
 test("a bundle finds the module beside it", { skip: skip || !esbuild }, () => {
     const folder = mkdtempSync(join(tmpdir(), "bundle-"));
     try {
-        writeFileSync(join(folder, "program.mjs"), `import { Laboratory } from ${JSON.stringify(join(here, "../index.mjs"))};\nconsole.log(String(await Laboratory.open()));\n`);
-        const bundled = spawnSync("esbuild", ["--bundle", "--format=esm", "--platform=neutral", "--external:node:*", "program.mjs", "--outfile=out/program.mjs"], { cwd: folder, encoding: "utf8" });
+        writeFileSync(
+            join(folder, "program.mjs"),
+            `import { Laboratory } from ${JSON.stringify(join(here, "../index.mjs"))};\nconsole.log(String(await Laboratory.open()));\n`
+        );
+        const bundled = spawnSync(
+            "esbuild",
+            ["--bundle", "--format=esm", "--platform=neutral", "--external:node:*", "program.mjs", "--outfile=out/program.mjs"],
+            { cwd: folder, encoding: "utf8" }
+        );
         assert.equal(bundled.status, 0, bundled.stderr);
         copyFileSync(path, join(folder, "out/lgp_c_region.wasm"));
-        assert.equal(spawnSync(process.execPath, ["out/program.mjs"], { cwd: folder, encoding: "utf8" }).stdout, "<Laboratory: halted operator, counter 0000, accumulator 00000000, clock 0>\n");
+        assert.equal(
+            spawnSync(process.execPath, ["out/program.mjs"], { cwd: folder, encoding: "utf8" }).stdout,
+            "<Laboratory: halted operator, counter 0000, accumulator 00000000, clock 0>\n"
+        );
     } finally {
         rmSync(folder, { recursive: true });
     }
@@ -254,7 +298,15 @@ test("a laboratory opens its own module, takes values, and says how it stands", 
     for (const [address, word] of [["0100", "b 0102"], ["0101", 0.5], ["0102", -3], ["0103", "0000000f"]]) laboratory.put(address, word);
     laboratory.put("0104", 3, 5);
     assert.deepEqual([...laboratory.words("0100", 5).values()], ["00010108", "40000000", "wwwwwwwf", "0000000f", "0j000000"]);
-    assert.deepEqual([laboratory.numbers("0102").get("0102"), laboratory.numbers("0104", 1, 5).get("0104"), numberOf("00000018"), fractionOf("40000000")], [-3, 3, 12, 0.5]);
+    assert.deepEqual(
+        [
+            laboratory.numbers("0102").get("0102"),
+            laboratory.numbers("0104", 1, 5).get("0104"),
+            numberOf("00000018"),
+            fractionOf("40000000"),
+        ],
+        [-3, 3, 12, 0.5]
+    );
     laboratory.go("0100");
     const { at, order, after, cost, putThere } = laboratory.step();
     assert.deepEqual([at, order, numberOf(after), putThere.order], ["0100", "b 0102", -3, null]);
@@ -277,7 +329,12 @@ test("a source is loaded, run and looked at, and its faults are told", { skip },
     assert.equal(laboratory.run(100).rule, 0);
     assert.equal(laboratory.why("sum").order, "h 0005");
     assert.equal(laboratory.labels().get("sum"), "0005");
-    assert.throws(() => laboratory.source(" add x\n"), ({ faults: [{ line, kind, columns, wrong }] }) => line === 1 && kind === "UnknownOrder" && columns.join() === "1,4" && wrong === "there is no such operation");
+    assert.throws(
+        () => laboratory.source(" add x\n"),
+        ({ faults: [{ line, kind, columns, wrong }] }) => (
+            line === 1 && kind === "UnknownOrder" && columns.join() === "1,4" && wrong === "there is no such operation"
+        )
+    );
     assert.deepEqual((await assemble(" z\n end\n")).text, "0000 00000000  z\n               end\n");
     assert.equal((await assemble(" z\n")).faults[0].kind, "NoEnd");
     assert.deepEqual(laboratory.optimum(1).free, []);
@@ -315,12 +372,19 @@ test("a desk types lines that name files", { skip }, async () => {
 test("npm's programs are those of the module, with their help and their version", () => {
     const manifest = JSON.parse(readFileSync(join(here, "../package.json"), "utf8"));
     for (const name of ["lgp_lab", "lgp_monitor"]) {
-        const called = (...words) => spawnSync("node", [join(here, "..", manifest.bin[name]), ...words], { input: "panel\n", encoding: "utf8" });
-        assert.equal(called("--version").stdout, [`${name} ${manifest.version}`, manifest.homepage].filter((line) => line !== undefined).map((line) => `${line}\n`).join(""));
+        const called = (...words) => (
+            spawnSync("node", [join(here, "..", manifest.bin[name]), ...words], { input: "panel\n", encoding: "utf8" })
+        );
+        assert.equal(
+            called("--version").stdout,
+            [`${name} ${manifest.version}`, manifest.homepage].filter((line) => line !== undefined).map((line) => `${line}\n`).join("")
+        );
         assert.match(called("--help").stdout, new RegExp(`^Usage: ${name} `, "m"));
         if (!skip) assert.match(called().stdout, /^counter 0000 accumulator 00000000 /);
     }
-    assert.match(spawnSync("node", [join(here, "../lgp_lab.mjs"), "help", "tape"], { encoding: "utf8" }).stdout, /^Usage: lgp_lab tape <FILE>$/m);
+    assert.match(
+        spawnSync("node", [join(here, "../lgp_lab.mjs"), "help", "tape"], { encoding: "utf8" }).stdout, /^Usage: lgp_lab tape <FILE>$/m
+    );
 });
 
 test("the file of the module's programs says how it is called", () => {

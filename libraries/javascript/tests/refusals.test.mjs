@@ -10,8 +10,13 @@ const module = compiled(readFileSync(new URL("../lgp_c_region.wasm", import.meta
 const told = (script) => toldRefusals("it", refusalsOf(module, script));
 
 test("a refusal has its line's number, its line and the monitor's reason", () => {
-    assert.equal(told("; a comment\n\nput 0001 00000001\r\nrun 5\nback 9"), "it:3: put 0001 00000001\n    ? 1 Form: 00000001 is odd, but the last bit of a word is always 0\nit:5: back 9\n    ? 7 TooFar 0: only this many orders are kept\n");
-    assert.equal(told("put 0000 00080000\nwords 0000 2\nrun 1\nlist\n"), "it:4: list\n    ? 10 NoImage: no source has been assembled yet\n");
+    assert.equal(
+        told("; a comment\n\nput 0001 00000001\r\nrun 5\nback 9"),
+        "it:3: put 0001 00000001\n    ? 1 Form: 00000001 is odd, but the last bit of a word is always 0\nit:5: back 9\n    ? 7 TooFar 0: only this many orders are kept\n"
+    );
+    assert.equal(
+        told("put 0000 00080000\nwords 0000 2\nrun 1\nlist\n"), "it:4: list\n    ? 10 NoImage: no source has been assembled yet\n"
+    );
 });
 
 test("each fault of a source has the number of its own line, also where the source is not closed", () => {

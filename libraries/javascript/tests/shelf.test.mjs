@@ -19,7 +19,9 @@ function inFolder(name, body) {
     });
 }
 
-const kept = (folder, part = "sessions") => readdirSync(join(folder, part)).sort().map((name) => readFileSync(join(folder, part, name), "utf8"));
+const kept = (folder, part = "sessions") => (
+    readdirSync(join(folder, part)).sort().map((name) => readFileSync(join(folder, part, name), "utf8"))
+);
 
 test("a process is known by its number and its start", () => {
     const parent = `${startOf(process.ppid)}-${process.ppid}`;
@@ -68,7 +70,10 @@ inFolder("a trouble is told once, also where it comes in the middle, and its end
     mkdirSync(join(folder, "sessions", name));
     shelf.keepTyped("turn 2");
     shelf.keepLine("turn 2");
-    assert.match(shelf.takeNews().join("\n"), /^this session is not kept any more, in [^\n]*: a folder is in the place of a file; it is tried again with each line$/);
+    assert.match(
+        shelf.takeNews().join("\n"),
+        /^this session is not kept any more, in [^\n]*: a folder is in the place of a file; it is tried again with each line$/
+    );
     shelf.keepTyped("turn 3");
     assert.deepEqual(shelf.takeNews(), []);
     assert.match(shelf.trouble, /a folder is in the place of a file$/);

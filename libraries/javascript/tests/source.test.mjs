@@ -17,7 +17,10 @@ function readOf(lines) {
 
 test("the words of a source, with their columns, places and digits", () => {
     const source = readOf(["start b one ; take", "only", "one frac .1", " end start"]);
-    assert.deepEqual(source.line(1), { line: 1, label: [0, 5], operation: [6, 7], operands: [[8, 11]], comment: [12, 18], declared: 3, place: "0000", digits: "00010004", fault: null });
+    assert.deepEqual(source.line(1), {
+        line: 1, label: [0, 5], operation: [6, 7], operands: [[8, 11]], comment: [12, 18], declared: 3, place: "0000", digits: "00010004",
+        fault: null,
+    });
     assert.deepEqual([source.line(2).place, source.line(2).digits, source.line(5)], ["0001", null, undefined]);
     assert.deepEqual(source.words.map(({ line, place }) => [line, place]), [[1, "0000"], [3, "0001"]]);
     assert.deepEqual([source.lineAt("0001").line, source.lineAt("0002")], [3, undefined]);
@@ -27,7 +30,10 @@ test("the words of a source, with their columns, places and digits", () => {
 
 test("faults, each with its columns, and the lines beside them", () => {
     const source = readOf(["a b none", "a z", ".", " frac .5"]);
-    assert.deepEqual(source.faulty().map(({ line, fault }) => [line, fault.kind, fault.at, fault.first]), [[1, "UnknownName", [4, 8], null], [2, "LabelTwice", [0, 1], 1], [3, "BadLabel", [0, 2], null], [5, "NoEnd", null, null]]);
+    assert.deepEqual(
+        source.faulty().map(({ line, fault }) => [line, fault.kind, fault.at, fault.first]),
+        [[1, "UnknownName", [4, 8], null], [2, "LabelTwice", [0, 1], 1], [3, "BadLabel", [0, 2], null], [5, "NoEnd", null, null]]
+    );
     assert.deepEqual([source.faultCount, source.faulty(2).length, source.line(4).digits], [4, 2, "40000000"]);
 });
 

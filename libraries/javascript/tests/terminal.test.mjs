@@ -86,19 +86,28 @@ test("sources are listed and run", () => {
 });
 
 inFolder("faults of a source", { faulty: " b none", long: `${" z\n".repeat(300_000)} z\n` }, (here) => {
-    assert.deepEqual([lab(["asm", "faulty"], "", here).text, lab(["run", "faulty", "5"], "", here).text], Array(2).fill("line 1 UnknownName\nline 2 NoEnd\n"));
+    assert.deepEqual(
+        [lab(["asm", "faulty"], "", here).text, lab(["run", "faulty", "5"], "", here).text],
+        Array(2).fill("line 1 UnknownName\nline 2 NoEnd\n")
+    );
     assert.equal(lab(["asm", "faulty"], "", here).status, 1);
     assert.match(lab(["asm", "long"], "", here).text, /^line 4097 PastEnd\n/m);
 });
 
 inFolder("a batch goes on after a refusal and ends at a file that is not there", { one: "foo\n", two: "turn 5\n" }, (here) => {
-    assert.deepEqual([lab(["batch", "one", "two"], "", here)].map(({ text, status }) => [text, status]), [["file one\n? 1 Form\nfile two\nclock 5\n", 1]]);
-    assert.deepEqual([lab(["batch", "two", "none", "one"], "", here)].map(({ text, status }) => [text, status]), [["file two\nclock 5\n", 2]]);
+    assert.deepEqual(
+        [lab(["batch", "one", "two"], "", here)].map(({ text, status }) => [text, status]), [["file one\n? 1 Form\nfile two\nclock 5\n", 1]]
+    );
+    assert.deepEqual(
+        [lab(["batch", "two", "none", "one"], "", here)].map(({ text, status }) => [text, status]), [["file two\nclock 5\n", 2]]
+    );
 });
 
 inFolder("statuses", { two: "turn 5\n" }, (here) => {
     mkdirSync(join(here.cwd, "folder"));
-    const statuses = [["script", "two"], ["script", "none"], ["script", "folder"], ["asm", "none"], ["run", "none", "5"]].map((words) => lab(words, "", here).status);
+    const statuses = [["script", "two"], ["script", "none"], ["script", "folder"], ["asm", "none"], ["run", "none", "5"]].map(
+        (words) => lab(words, "", here).status
+    );
     assert.deepEqual(statuses, [0, 2, 2, 2, 2]);
     if (existsSync("/dev/full")) {
         const stdio = ["pipe", openSync("/dev/full", "w"), "pipe"];
@@ -109,19 +118,35 @@ inFolder("statuses", { two: "turn 5\n" }, (here) => {
 
 inFolder("mistaken words have their own status, and nothing is read or done", { good: " z\n end\n" }, (here) => {
     const mistaken = {
-        jump: "error: unrecognized subcommand 'jump'\n\nUsage: lgp_lab [COMMAND]", "--loud": "error: unexpected argument '--loud'\n\nUsage: lgp_lab [COMMAND]",
-        asm: "error: the following required arguments were not provided:\n  <FILE>\n\nUsage: lgp_lab asm <FILE>", batch: "error: the following required arguments were not provided:\n  <FILE>...\n\nUsage: lgp_lab batch <FILE>...",
-        run: "error: the following required arguments were not provided:\n  <FILE>\n  <LIMIT>\n\nUsage: lgp_lab run <FILE> <LIMIT>", "run good": "error: the following required arguments were not provided:\n  <LIMIT>\n\nUsage: lgp_lab run <FILE> <LIMIT>",
+        jump: "error: unrecognized subcommand 'jump'\n\nUsage: lgp_lab [COMMAND]",
+        "--loud": "error: unexpected argument '--loud'\n\nUsage: lgp_lab [COMMAND]",
+        asm: "error: the following required arguments were not provided:\n  <FILE>\n\nUsage: lgp_lab asm <FILE>",
+        batch: "error: the following required arguments were not provided:\n  <FILE>...\n\nUsage: lgp_lab batch <FILE>...",
+        run: "error: the following required arguments were not provided:\n  <FILE>\n  <LIMIT>\n\nUsage: lgp_lab run <FILE> <LIMIT>",
+        "run good": "error: the following required arguments were not provided:\n  <LIMIT>\n\nUsage: lgp_lab run <FILE> <LIMIT>",
         "run good 4294967296": "error: invalid value '4294967296' for '<LIMIT>': it is a number from 0 to 4294967295\n\nUsage: lgp_lab run <FILE> <LIMIT>",
         "run good five": "error: invalid value 'five' for '<LIMIT>': it is a number from 0 to 4294967295\n\nUsage: lgp_lab run <FILE> <LIMIT>",
-        "script a b": "error: unexpected argument 'b' found\n\nUsage: lgp_lab script <FILE>", "tape --loud": "error: unexpected argument '--loud' found\n\nUsage: lgp_lab tape <FILE>",
+        "script a b": "error: unexpected argument 'b' found\n\nUsage: lgp_lab script <FILE>",
+        "tape --loud": "error: unexpected argument '--loud' found\n\nUsage: lgp_lab tape <FILE>",
     };
     for (const [words, why] of Object.entries(mistaken))
-        assert.deepEqual([words, lab(words.split(" "), "panel\n", here)], [words, { text: "", told: `${why}\n\nFor more information, try '--help'.\n`, status: 64 }]);
+        assert.deepEqual(
+            [words, lab(words.split(" "), "panel\n", here)],
+            [words, { text: "", told: `${why}\n\nFor more information, try '--help'.\n`, status: 64 }]
+        );
     const usage = "Usage: lgp_monitor [OPTIONS] [FILE]...\n\nFor more information, try '--help'.\n";
-    assert.deepEqual(monitor(["--none"], "panel\n", here), { text: "", told: `error: unexpected argument '--none' found\n\n${usage}`, status: 64 });
-    assert.deepEqual(monitor(["--echo", "--echo"], "panel\n", here), { text: "", told: `error: the argument '--echo' cannot be used multiple times\n\n${usage}`, status: 64 });
-    for (const call of [lab, monitor]) assert.deepEqual(call(["script\ufffd"], "", here), { text: "", told: "error: the words of the command line are not UTF-8 text\n", status: 64 });
+    assert.deepEqual(
+        monitor(["--none"], "panel\n", here), { text: "", told: `error: unexpected argument '--none' found\n\n${usage}`, status: 64 }
+    );
+    assert.deepEqual(
+        monitor(["--echo", "--echo"], "panel\n", here),
+        { text: "", told: `error: the argument '--echo' cannot be used multiple times\n\n${usage}`, status: 64 }
+    );
+    for (const call of [lab, monitor]) {
+        assert.deepEqual(
+            call(["script\ufffd"], "", here), { text: "", told: "error: the words of the command line are not UTF-8 text\n", status: 64 }
+        );
+    }
 });
 
 inFolder("words after two hyphens are files, and one hyphen is a file's name", { "--echo": "turn 5\n", "-": "turn 6\n" }, (here) => {
@@ -130,10 +155,14 @@ inFolder("words after two hyphens are files, and one hyphen is a file's name", {
     assert.equal(lab(["batch", "-", "--", "--echo"], "", here).text, "file -\nclock 6\nfile --echo\nclock 5\n");
 });
 
-inFolder("each source is listed, taped and run, whatever lines it has", { point: " z\n.\n end\n", wide: `; ${"x".repeat(5000)}\n end\n`, good: " z\n end 0000\n", last: " end" }, (here) => {
+inFolder("each source is listed, taped and run, whatever lines it has", {
+    point: " z\n.\n end\n", wide: `; ${"x".repeat(5000)}\n end\n`, good: " z\n end 0000\n", last: " end",
+}, (here) => {
     assert.equal(lab(["asm", "point"], "", here).text, "line 2 BadLabel\n");
     assert.equal(lab(["asm", "wide"], "", here).text, `              ; ${"x".repeat(5000)}\n               end\n`);
-    assert.deepEqual(lab(["tape", "good"], "", here), { text: "000k0000'wwwwwwwj'00000000'[16]800f0000'\n", told: lab([], "", here).told, status: 0 });
+    assert.deepEqual(
+        lab(["tape", "good"], "", here), { text: "000k0000'wwwwwwwj'00000000'[16]800f0000'\n", told: lab([], "", here).told, status: 0 }
+    );
     assert.equal(lab(["asm", "last"], "", here).text, "               end\n");
     const piped = spawnSync("bash", ["-c", `cat | node ${program} lgp_lab asm /dev/stdin`], { input: " z\n end\n", ...here });
     assert.equal(piped.stdout.toString(), "0000 00000000  z\n               end\n");
@@ -142,11 +171,20 @@ inFolder("each source is listed, taped and run, whatever lines it has", { point:
 inFolder("what cannot be read or written is said", {}, (here) => {
     mkdirSync(join(here.cwd, "folder"));
     assert.match(lab(["script", "folder"], "", here).told, /^lgp_lab: 'folder' is a folder, and no file\n$/);
-    if (existsSync("/dev/full")) assert.match(monitor([], "panel\n", { stdio: ["pipe", openSync("/dev/full", "w"), "pipe"] }).told, /^lgp_monitor: the output could not be written: the disk is full\n$/);
+    if (existsSync("/dev/full")) {
+        assert.match(
+            monitor([], "panel\n", { stdio: ["pipe", openSync("/dev/full", "w"), "pipe"] }).told,
+            /^lgp_monitor: the output could not be written: the disk is full\n$/
+        );
+    }
 });
 
 test("an output that somebody stops reading ends the program without a word", () => {
-    const call = (name, words) => spawnSync("bash", ["-c", `node ${program} ${name} ${words} 2>told | head -n 1; cat told`], { input: "panel\n".repeat(20_000), cwd: mkdtempSync(join(tmpdir(), "terminal-")) });
+    const call = (name, words) => spawnSync(
+        "bash",
+        ["-c", `node ${program} ${name} ${words} 2>told | head -n 1; cat told`],
+        { input: "panel\n".repeat(20_000), cwd: mkdtempSync(join(tmpdir(), "terminal-")) }
+    );
     for (const name of ["lgp_lab", "lgp_monitor"]) assert.match(call(name, "").stdout.toString(), /^counter 0000[^\n]*\n$/);
 });
 
@@ -186,14 +224,19 @@ test("bytes that are no text, long lines and a last line without an end", () => 
 
 const LESSON = "put 0000 b 0003\nput 0003 = 4\nsave drum\nput 0003 = 5\nput 0009 = 1\nrestore drum\n";
 
-inFolder("a dump is kept and given back, without a trace of what was asked", { lesson: LESSON, again: "press start\nrestore drum\n" }, (here) => {
+inFolder("a dump is kept and given back, without a trace of what was asked", {
+    lesson: LESSON, again: "press start\nrestore drum\n",
+}, (here) => {
     assert.equal(monitor(["lesson"], "transcript\n", here).text, [
         "ok", "ok", "saved drum", "ok", "ok", "restored 2",
         "put 0000 0001000j", "put 0003 00000008", "put 0003 0000000f", "put 0009 00000002", "put 0003 00000008", "put 0009 00000000", "",
     ].join("\n"));
     assert.equal(readFileSync(join(here.cwd, "drum"), "utf8"), "0000 0001000j\n0003 00000008\n");
     assert.deepEqual(readdirSync(here.cwd).sort(), ["again", "drum", "lesson"]);
-    assert.match(monitor(["again"], "transcript\n", here).text, /^live\n\? 2 Moving: the machine is running.*\n +drum, line 2 of again\npress start\n$/);
+    assert.match(
+        monitor(["again"], "transcript\n", here).text,
+        /^live\n\? 2 Moving: the machine is running.*\n +drum, line 2 of again\npress start\n$/
+    );
 });
 
 inFolder("nothing is left out of the transcript of a new laboratory", { drum: "0000 00000002\n" }, (here) => {
@@ -208,7 +251,10 @@ inFolder("a dump is given back as often as one likes", { drum: FULL }, (here) =>
     assert.equal(monitor([], "restore drum\nnew\n".repeat(60), here).text, "restored 4000\nnew\n".repeat(60));
 });
 
-inFolder("dumps that are none", { odd: "0000 00000001\n", zero: "0000 00000000\n", order: "0001 00000002\n0000 00000002\n", end: "0000 00000002\n#.\n", wide: "0000  00000002\n" }, (here) => {
+inFolder("dumps that are none", {
+    odd: "0000 00000001\n", zero: "0000 00000000\n", order: "0001 00000002\n0000 00000002\n", end: "0000 00000002\n#.\n",
+    wide: "0000  00000002\n",
+}, (here) => {
     assert.equal(monitor([], "restore odd\nrestore zero\nrestore order\nrestore end\nrestore wide\n", here).text, [
         "? 1 Form: line 1 is not a line of a dump", "        odd", "? 1 Form: line 1 is not a line of a dump", "        zero",
         "? 1 Form: the address of line 2 is not above that of the line before it", "        order",
@@ -217,7 +263,9 @@ inFolder("dumps that are none", { odd: "0000 00000001\n", zero: "0000 00000000\n
 });
 
 inFolder("tapes of many lines and groups", {
-    lines: `${"0".repeat(80)}\n`.repeat(51) + "0".repeat(10), groups: `${"[02]".repeat(20)}\r\n`.repeat(60), cut: `${"0".repeat(4088)}[02]1\n`,
+    lines: `${"0".repeat(80)}\n`.repeat(51) + "0".repeat(10),
+    groups: `${"[02]".repeat(20)}\r\n`.repeat(60),
+    cut: `${"0".repeat(4088)}[02]1\n`,
     long: `${"0".repeat(80)}\n`.repeat(51) + "0".repeat(11), bad: `${"0".repeat(80)}\n`.repeat(60) + "[6x]", empty: "",
 }, (here) => {
     const { text } = monitor([], "tape lines\ntape groups\ntape cut\ntape long\ntape bad\ntape empty\n", here);
@@ -238,10 +286,13 @@ inFolder("tapes", { tape: "l2\n[16][02]'\n", cut: "[1\n6]", bad: "12\n3Q", long:
 });
 
 inFolder("what was printed is kept as text, without a trace of what was asked", {}, (here) => {
-    const lines = "put 0000 p =h\nput 0001 p 0400\nput 0002 z\npress start\npunch blank\nrun 9\npunch tape\n  punch   tape two \ntape tape\nsource\npunch none\n.\ntranscript\n";
+    const lines =
+        "put 0000 p =h\nput 0001 p 0400\nput 0002 z\npress start\npunch blank\nrun 9\npunch tape\n  punch   tape two \ntape tape\nsource\npunch none\n.\ntranscript\n";
     assert.equal(monitor([], lines, here).text, [
-        "ok", "ok", "ok", "live", "saved blank", "ran 3 rest", "saved tape", "saved tape two", "ok 2", "? 9 Faults", "line 1 UnknownOrder", "        punch none", "              ^^^^", "line 2 NoEnd",
-        "put 0000 00083100", "put 0001 00080400", "put 0002 00000000", "press start", "run 9", "mount h[04]", "source", "punch none", ".", "",
+        "ok", "ok", "ok", "live", "saved blank", "ran 3 rest", "saved tape", "saved tape two", "ok 2", "? 9 Faults", "line 1 UnknownOrder",
+        "        punch none", "              ^^^^", "line 2 NoEnd",
+        "put 0000 00083100", "put 0001 00080400", "put 0002 00000000", "press start", "run 9", "mount h[04]", "source", "punch none", ".",
+        "",
     ].join("\n"));
     assert.deepEqual(readdirSync(here.cwd).sort(), ["blank", "tape", "tape two"]);
     assert.deepEqual(["blank", "tape", "tape two"].map((name) => readFileSync(join(here.cwd, name), "utf8")), ["", "h[04]", "h[04]"]);
@@ -252,7 +303,8 @@ inFolder("a tape and a drum are kept and read in each form", {}, (here) => {
     const read = "archive archive\nbytes bytes\ntape text\nrestore-simh drum\ntranscript\n";
     assert.equal(monitor([], kept + read, here).text, [
         "ok 5", "saved text", "saved archive", "saved bytes", "ok", "saved drum", "ok", "ok 5", "ok 5", "ok 5", "restored 1",
-        "mount 12[16]0'", "put 0050 00000006", "put 0050 00000008", "mount 12[16]0'", "mount 12[16]0'", "mount 12[16]0'", "put 0050 00000006", "",
+        "mount 12[16]0'", "put 0050 00000006", "put 0050 00000008", "mount 12[16]0'", "mount 12[16]0'", "mount 12[16]0'",
+        "put 0050 00000006", "",
     ].join("\n"));
     assert.deepEqual(readdirSync(here.cwd).sort(), ["archive", "bytes", "drum", "text"]);
 });
@@ -260,11 +312,17 @@ inFolder("a tape and a drum are kept and read in each form", {}, (here) => {
 inFolder("files that are refused", { point: " z\n.\n", self: "do self\n" }, (here) => {
     mkdirSync(join(here.cwd, "folder"));
     assert.equal(monitor([], "source point\ndo none\ndo folder\nsave folder/none/drum\nsave folder\n", here).text, [
-        "? 13 File point: a line with only a point would end the source", "? 13 File none: it cannot be opened", "? 13 File folder: it cannot be read",
-        "? 13 File folder/none/drum: it cannot be written, and is unchanged", "? 13 File folder: it cannot be written, and is unchanged", "",
+        "? 13 File point: a line with only a point would end the source",
+        "? 13 File none: it cannot be opened",
+        "? 13 File folder: it cannot be read",
+        "? 13 File folder/none/drum: it cannot be written, and is unchanged",
+        "? 13 File folder: it cannot be written, and is unchanged",
+        "",
     ].join("\n"));
     assert.deepEqual(readdirSync(here.cwd).sort(), ["folder", "point", "self"]);
-    assert.match(monitor(["self"], "", here).text, /^\? 13 File self: 16 files are already open, each from the one before\n +line 1 of self\n$/);
+    assert.match(
+        monitor(["self"], "", here).text, /^\? 13 File self: 16 files are already open, each from the one before\n +line 1 of self\n$/
+    );
     assert.equal(monitor(["none"], "", here).text, "? 13 File none: it cannot be opened\n        named on the command line\n");
 });
 

@@ -97,18 +97,23 @@ const GOING = ["put 0000 u 0000", "go 0000"];
 const FULL = Array.from({ length: 64 }, (_, place) => `break 00${String(place).padStart(2, "0")}`);
 const SOURCE = ["source", "first z", " end first", "."];
 /**
- * For each reason: lines after which the example is refused, and lines after which it is not; or what is typed instead of the example, and is
+ * For each reason: lines after which the example is refused, and lines after which it is not; or what is typed instead of the example, and
+ * is
  * refused; and the refusal. No lines lead to the clock's limit: the contracts of the crates say when it is the reason.
  */
 const REASONS = {
     "while the machine is going: press manual first": { so: GOING, not: [...GOING, "press manual"], refusal: /^\? (2 Moving|3 AtWork)/ },
     "if there is no such address, or the clock would pass its limit": { wrong: "go 0064" },
-    "while the machine is going, or if the text contains a character that does not exist on tape": { so: GOING, not: [], not: [], wrong: "mount 12A", refusal: /^\? 2 Moving/ },
+    "while the machine is going, or if the text contains a character that does not exist on tape": {
+        so: GOING, not: [], not: [], wrong: "mount 12A", refusal: /^\? 2 Moving/,
+    },
     "if the text contains a character that does not exist on tape": { wrong: "type 12A" },
     "if the clock would pass its limit": { not: GOING },
     "if there is no such address": { wrong: (command) => `${command} 0064` },
     "if fewer orders are kept": { so: [], not: [...GOING, "orders 1"], refusal: /^\? 7 TooFar 0/ },
-    "if no rule hits any of the kept orders": { so: [...GOING, "orders 9"], not: [...GOING, "orders 9", "break 0000"], refusal: /^\? 8 NoHit \d+/ },
+    "if no rule hits any of the kept orders": {
+        so: [...GOING, "orders 9"], not: [...GOING, "orders 9", "break 0000"], refusal: /^\? 8 NoHit \d+/,
+    },
     "if the words would go past the end of the drum": { wrong: (command) => `${command} 6363 2${command === "look" ? " 0" : ""}` },
     "if there are already 64 rules: drop removes one": { so: FULL, not: [...FULL, "drop 5"], refusal: /^\? 5 Full/ },
     "if no rule has this number: the command rules lists them": { so: [], not: ["break 0000"], refusal: /^\? 6 NoRule/ },
@@ -136,7 +141,9 @@ test("a command is refused for the reason that is told, and not without it", () 
 
 test("a command that is told never to be refused is not, at rest, going, or with as many rules as there can be", () => {
     for (const record of told("commands-data").filter((it) => it.get("refused").startsWith("never") && it.get("command") !== "quit")) {
-        for (const before of [[], GOING, FULL, SOURCE]) assert.doesNotMatch(last(...before, record.get("example")), /^\? /, record.get("command"));
+        for (const before of [[], GOING, FULL, SOURCE]) {
+            assert.doesNotMatch(last(...before, record.get("example")), /^\? /, record.get("command"));
+        }
     }
 });
 
@@ -145,7 +152,9 @@ test("a command that is told never to be refused is not, at rest, going, or with
 const STATES = {
     "the operator halted the machine, or has not started it": [],
     "a stop order halted the machine": ["press start", "run 9"],
-    "an overflow halted the machine": ["put 0000 b 0100", "put 0100 80000000", "put 0001 s 0101", "put 0101 00000002", "press start", "run 9"],
+    "an overflow halted the machine": [
+        "put 0000 b 0100", "put 0100 80000000", "put 0001 s 0101", "put 0101 00000002", "press start", "run 9",
+    ],
     "the machine halted after one operation": ["put 0000 u 0000", "press oneop", "press start", "run 9"],
     "an input is waiting for codes": ["put 0000 i 0000", "press start", "run 9"],
     "the machine is still going": GOING,
@@ -184,7 +193,10 @@ test("each state of the machine has its own sentence, and what it says to do let
 test("each word of a run is told whether it may be moved, and why not", () => {
     const sum = ["put 0000 b 0010", "put 0001 h 0002", "put 0003 u 0000", "put 0010 b 0011", "press start"];
     const told = (word) => first(...sum, `json optimum-data 9 ${word}`);
-    assert.deepEqual(["0010", "0020", "0001", "0011", "0002"].map((word) => told(word).get("freedom")), ["free", "unnamed", "performed", "changed", "performed"]);
+    assert.deepEqual(
+        ["0010", "0020", "0001", "0011", "0002"].map((word) => told(word).get("freedom")),
+        ["free", "unnamed", "performed", "changed", "performed"]
+    );
     // an order that no other one waits for makes a difference where it stands: these are the same two orders with the second one elsewhere
     const pair = (second) => first(`put 0000 u ${second}`, `put ${second} u 0000`, "press start", `json optimum-data 4 ${second}`);
     assert.deepEqual(["0001", "0022", "0058"].map((second) => pair(second).get("times")), [140, 137, 141]);

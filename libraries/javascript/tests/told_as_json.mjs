@@ -1,7 +1,10 @@
 // Records for tests, each written as a text of fields, as a reply for programs has them as objects of JSON.
 
 /** Keys whose values are texts, also where they look like numbers. */
-const TEXTS = new Set(["at", "order", "before", "after", "found", "left", "digits", "address", "place", "word", "counter", "accumulator", "register", "name", "label", "turns", "put-at", "put-over", "by-at", "sign", "stored"]);
+const TEXTS = new Set([
+    "at", "order", "before", "after", "found", "left", "digits", "address", "place", "word", "counter", "accumulator", "register", "name",
+    "label", "turns", "put-at", "put-over", "by-at", "sign", "stored",
+]);
 
 function valueOf(key, text) {
     if (key === "changed" || key.startsWith("live-")) return text === "yes";
