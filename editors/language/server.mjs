@@ -389,7 +389,8 @@ export class LanguageServer {
         const after = document.edited(edits);
         const tried = this.#reading(after);
         if (this.#areAlike(source, tried)) return this.#edit(document, edits);
-        const faulty = [tried.line(declared), ...tried.faulty()].find(
+        // a line that had nothing but the label may be there no more
+        const faulty = [tried.line(declared), ...tried.faulty()].filter((line) => line !== undefined).find(
             ({ line, fault }) => fault !== null && source.line(line)?.fault?.kind !== fault.kind
         );
         const others = "the words would be others than before";

@@ -110,6 +110,11 @@ test("a label gets another name, unless a word or a fault would be another one",
         editor.refused("textDocument/rename", { textDocument: { uri: URI }, position: { line: 3, character: 8 }, newName: "x" }).message,
         "there is no label here"
     );
+    const alone = new Editor(" b last\nlast");
+    assert.match(
+        alone.refused("textDocument/rename", { textDocument: { uri: URI }, position: { line: 1, character: 2 }, newName: "" }).message,
+        /^: the end line is missing; /
+    );
 });
 
 test("place and digits are beside each line, as in a listing; of other lines than the faulty one too", () => {
