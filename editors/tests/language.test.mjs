@@ -110,10 +110,10 @@ test("a label gets another name, unless a word or a fault would be another one",
         editor.refused("textDocument/rename", { textDocument: { uri: URI }, position: { line: 3, character: 8 }, newName: "x" }).message,
         "there is no label here"
     );
-    const alone = new Editor(" b last\nlast");
+    const alone = new Editor(" z\n end\nlast");
     assert.match(
-        alone.refused("textDocument/rename", { textDocument: { uri: URI }, position: { line: 1, character: 2 }, newName: "" }).message,
-        /^: the end line is missing; /
+        alone.refused("textDocument/rename", { textDocument: { uri: URI }, position: { line: 2, character: 2 }, newName: "" }).message,
+        /^: the words would be others than before$/
     );
 });
 
