@@ -20,7 +20,7 @@ async function move(browser, count, [runs, then]) {
 }
 
 /** What of the kiosk lies outside of the window. */
-const outside = (browser) => browser.value(`[...document.querySelectorAll("#page *")].filter((it) => it.checkVisibility() && it.closest(".unseen, .well, .paper, .heap svg, .carriage g") === null).filter((it) => {
+const outside = (browser) => browser.value(`[...document.querySelectorAll("#page *")].filter((it) => it.checkVisibility() && it.closest(".unseen, .well, .paper, .heap svg, .carriage g, .reader > *") === null).filter((it) => {
     const { left, top, right, bottom } = it.getBoundingClientRect();
     return left < -1 || top < -1 || right > innerWidth + 1 || bottom > innerHeight + 1;
 }).map((it) => it.tagName + "." + it.className)`);
