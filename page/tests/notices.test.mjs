@@ -126,6 +126,25 @@ test("what was typed stands between what was printed, and is no part of the pape
     assert.deepEqual([printed(), paper.querySelector(".typed")], ["1", null]);
 });
 
+const { rowOn } = await from("running");
+test("a row of the paper is found by its beginning, in whatever pieces it was printed", options, () => {
+    const rows = "0245 -0060\n0250 -0074\n0255 0250\n";
+    for (let size = 1; size <= rows.length; size += 1) {
+        const paper = document.createElement("pre");
+        for (let end = size; end < rows.length + size; end += size) fillPaper(paper, rows.slice(0, end), [], texts);
+        for (const row of ["0245", "0250", "0255"]) {
+            const { node, at } = rowOn(paper, row);
+            const pieces = [...paper.childNodes];
+            const before = pieces.slice(0, pieces.indexOf(node)).map(({ data }) => data).join("").length;
+            assert.equal(`\n${rows}`.indexOf(`\n${row}`), before + at, `${row} in pieces of ${size}`);
+        }
+        assert.equal(rowOn(paper, "0074"), null);
+    }
+    const typed = document.createElement("pre");
+    fillPaper(typed, "1000 2\n", [{ at: 0, keys: "7'" }], texts);
+    assert.deepEqual([rowOn(typed, "1000").at, rowOn(typed, "7")], [0, null]);
+});
+
 const { behind, hideOthers, showDoor, makeDoors } = await from("doors");
 test("what other doors have is hidden, and the link of the open one says that it is", options, () => {
     const parts = [["look", "p"], ["look learn", "i"], ["work", "b"]].map(([doors, name]) => behind(doors, document.createElement(name)));

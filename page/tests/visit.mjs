@@ -125,7 +125,7 @@ async function picture(browser, name) {
 }
 
 /** What of the kiosk lies outside of the window, or is a large button lower than 84 pixels. */
-const outside = (browser) => browser.value(`[...document.querySelectorAll("#page *")].filter((it) => it.checkVisibility() && it.closest(".unseen, .well, .paper, .scope, .carriage g") === null).filter((it) => {
+const outside = (browser) => browser.value(`[...document.querySelectorAll("#page *")].filter((it) => it.checkVisibility() && it.closest(".unseen, .well, .paper, .scope, .carriage g, .reader > *") === null).filter((it) => {
     const { left, top, right, bottom, height } = it.getBoundingClientRect();
     return left < -1 || top < -1 || right > innerWidth + 1 || bottom > innerHeight + 1 || (it.matches(".kiosk-bar button") && height < 84);
 }).map((it) => it.tagName + "." + it.className)`);

@@ -26,9 +26,9 @@ export function openWindow(body = "") {
     }
     const { window } = new JSDOM(`<body>${body}</body>`, { url: "http://localhost/" });
     window.Element.prototype.checkVisibility = isSeen;
-    const { document, location, Event, KeyboardEvent, getComputedStyle } = window;
+    const { document, location, Event, KeyboardEvent, Node, getComputedStyle } = window;
     const stands = { matchMedia: () => ({ matches: false }), requestAnimationFrame: (work) => work(), CSS: { escape: (text) => text } };
-    Object.assign(globalThis, { window, document, location, Event, KeyboardEvent, getComputedStyle, ResizeObserver, ...stands });
+    Object.assign(globalThis, { window, document, location, Event, KeyboardEvent, Node, getComputedStyle, ResizeObserver, ...stands });
     return true;
 }
 

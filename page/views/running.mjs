@@ -83,18 +83,32 @@ function makeTold(exhibit, { code }) {
     return { node: told, show };
 }
 
+/** Where on the paper the last row is that begins with a text: the node in which that begins, and at which sign; or null. */
+export function rowOn(paper, row) {
+    const nodes = [];
+    let text = "\n";
+    for (const node of paper.childNodes) {
+        if (node.nodeType !== Node.TEXT_NODE) text += node.classList.contains("line-of-its-own") ? "\n" : "";
+        else {
+            nodes.push({ node, from: text.length });
+            text += node.data;
+        }
+    }
+    // what is printed comes in pieces, so the text may go on in the next node
+    const at = text.lastIndexOf(`\n${row}`) + 1;
+    const begun = at === 0 ? undefined : nodes.findLast(({ from }) => from <= at);
+    return begun === undefined ? null : { node: begun.node, at: at - begun.from };
+}
+
 /** How far below the upper edge of the paper the last row is that begins with a text, or null. */
 function topOf(paper, row) {
-    for (const node of [...paper.childNodes].filter(({ nodeType }) => nodeType === Node.TEXT_NODE).reverse()) {
-        const at = Math.max(node.data.lastIndexOf(`\n${row}`) + 1, node.data.startsWith(row) ? 0 : -1);
-        if (at < 1 && !node.data.startsWith(row)) continue;
-        const range = document.createRange();
-        range.setStart(node, at);
-        range.setEnd(node, at + row.length);
-        const { top, height } = range.getBoundingClientRect();
-        return top + height / 2 - paper.getBoundingClientRect().top - paper.clientTop + paper.scrollTop;
-    }
-    return null;
+    const found = rowOn(paper, row);
+    if (found === null) return null;
+    const range = document.createRange();
+    range.setStart(found.node, found.at);
+    range.setEnd(found.node, found.at + 1);
+    const { top, height } = range.getBoundingClientRect();
+    return top + height / 2 - paper.getBoundingClientRect().top - paper.clientTop + paper.scrollTop;
 }
 
 /** Has the row of the paper in the colour of its caption. */
