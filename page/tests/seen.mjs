@@ -138,7 +138,7 @@ export const numbersOf = (browser) => browser.value(
     "Math.min(...[...document.querySelectorAll('.cell text')].filter((it) => getComputedStyle(it).visibility !== 'hidden').map((it) => parseFloat(getComputedStyle(it).fontSize) * (({ a, b }) => Math.hypot(a, b))(it.getScreenCTM())))"
 );
 
-/** Where controls, panes and drum are. */
+/** Where controls, panes and drum are; a key that is struck is where it stands at rest. */
 export const boxes = (browser) => browser.value(
-    `[...document.querySelectorAll("#page :is(button:not(.plain, .account-bar), .pane, .drum-box, .editor, .tabbed, .pace, .scope)")].filter((it) => it.checkVisibility() && it.closest("#notices") === null).map((it) => [it.id || it.dataset.name || (it.tagName === "BUTTON" ? it.textContent.slice(0, 20) : it.classList[0]), ...Object.values(it.getBoundingClientRect().toJSON()).slice(0, 4).map(Math.round)].join(" "))`
+    `(document.querySelectorAll(".key.down").forEach((it) => it.classList.remove("down")), [...document.querySelectorAll("#page :is(button:not(.plain, .account-bar), .pane, .drum-box, .editor, .tabbed, .pace, .scope)")].filter((it) => it.checkVisibility() && it.closest("#notices") === null).map((it) => [it.id || it.dataset.name || (it.tagName === "BUTTON" ? it.textContent.slice(0, 20) : it.classList[0]), ...Object.values(it.getBoundingClientRect().toJSON()).slice(0, 4).map(Math.round)].join(" ")))`
 );
