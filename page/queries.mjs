@@ -56,7 +56,7 @@ export class Queries {
         return replies.paperOf(await this.#link.ask("paper"));
     }
 
-    /** The code that was printed last, of so many. */
+    /** The code that was printed last, of `count`. */
     async struck(count) {
         const [record] = count === 0 ? [] : replies.recordsOf(await this.#link.ask(`json paper-data ${count - 1}`));
         return record === undefined ? null : { code: Number(record.get("code")), sign: record.get("sign") ?? null };

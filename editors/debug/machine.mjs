@@ -240,7 +240,7 @@ export class Machine {
         return past;
     }
 
-    /** Goes to the end of so many orders of the past, with the steps before it. */
+    /** Goes to the end of the first `orders` orders of the past, with the steps before it. */
     async #goTo(past, orders) {
         const { opened, since, undone } = await past.openedAfter(orders);
         this.#goOnIn(opened);

@@ -119,7 +119,7 @@ export class Past {
         return this.#sinceBegun.reduce((sum, deed) => sum + deed.orders, 0);
     }
 
-    /** What was done up to the last of so many orders, with all rules; and the lines that were done after it. */
+    /** What was done up to the end of the first `orders` orders, with all rules; and the lines that were done after it. */
     #upTo(orders) {
         const deeds = this.#deeds.slice(0, this.#begun);
         const undone = [];
@@ -143,7 +143,7 @@ export class Past {
         }
     }
 
-    /** A session in which so many orders were performed, how many of them since something else was done, and what was done after them. */
+    /** A session in which `orders` orders were performed, how many of them since something else was done, and what was done after them. */
     async openedAfter(orders) {
         const { deeds, undone } = this.#upTo(orders);
         const opened = this.#openSession();

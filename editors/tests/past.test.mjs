@@ -28,7 +28,7 @@ const types = async (client, expression) => {
 };
 const stateOf = async (client) => Promise.all(["@clock", "@counter", "@accumulator", "count", "flag"].map((it) => valueOf(client, it)));
 
-/** A client whose program has performed so many orders. */
+/** A client whose program has performed `orders` orders. */
 async function after(orders, options) {
     const client = new Client({ "/counts": COUNTS }, options);
     await client.launched({ program: "/counts", stopOnEntry: true });

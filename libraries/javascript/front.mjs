@@ -297,7 +297,7 @@ export class Front {
     }
 
     async #around(address = "*", count = "7") {
-        // the monitor says which address that is, or why it is none, and whether so many words can be shown
+        // the monitor says which address that is, or why it is none, and whether that number of words can be shown
         const told = await this.#engine.ask(`json show-data ${address} 1`);
         if (isRefusal(told)) return this.#say(told);
         const isCount = !isRefusal(await this.#engine.ask(`json show-data 0000 ${count}`));

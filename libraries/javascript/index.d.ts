@@ -248,7 +248,7 @@ export class Laboratory {
     drum(limit: number): DrumRow[];
     /** What was printed, as the rows of the typewriter's paper, with a line feed between two of them. */
     paper(): string;
-    /** Goes back to where the last of so many orders began, and tells the clock there. */
+    /** Goes back over `orders` orders, to where the first of them began, and tells the clock there. */
     back(orders: number): bigint;
     /** A laboratory of its own, as this one was when the order of a number began. Orders are counted from 0, and the number of all orders
      * leads to the present. A `TooFar` is thrown where fewer were performed; its `detail` says how many. */

@@ -1,4 +1,4 @@
-// The native program behind a terminal's front, here a stand-in for it: it ends with the front, however that ends.
+// The native program that a terminal's front drives, here a stand-in for it: it ends with the front, however that ends.
 import assert from "node:assert/strict";
 import { spawn } from "node:child_process";
 import { mkdtempSync, rmSync, writeFileSync } from "node:fs";
