@@ -17,7 +17,8 @@ const ORDERS_OF = { orders: (reply) => replies.ordersOf(reply).orders, load: rep
 /** Over how many orders a line of a script goes back, by its words and its reply. */
 const BACK_OF = { back: ([, orders]) => Number(orders), last: (words, reply) => replies.lastOf(reply).orders };
 
-const typed = (text) => textFrom(new TextEncoder().encode(text));
+/** A text as a session takes it, with a sign for each of its bytes. */
+export const typed = (text) => textFrom(new TextEncoder().encode(text));
 
 /** What is done again takes long, and was stopped. */
 export class Interrupted extends Error {}
