@@ -70,7 +70,7 @@ pub IsReported-meaning : {S : Type 0} (language : Language S) (opening : S) (r :
     → IsReported language opening (after_meaning language opening r meaning).state (after_meaning language opening r meaning).transcript
 unfolding after_lines
 IsReported-meaning language opening r (Lines lines) reported free = IsReported-lines language opening r.state r.transcript lines reported free
-IsReported-meaning language opening r Anew reported free = IsReported-none language opening
+IsReported-meaning language opening r (Anew lines) reported free = IsReported-lines language opening opening [] lines (IsReported-none language opening) free
 
 IsReported-text : {S : Type 0} (language : Language S) (opening : S) (meaning : Recorded S → List ℕ → Meaning) (typed : Language (Recorded S)) → HasMeanings language opening meaning typed → StandForLines meaning
     → (r : Recorded S) (lines : List (List ℕ)) → IsReported language opening r.state r.transcript → AllByRecursion IsLine lines

@@ -14,10 +14,11 @@ pub record Recorded (S : Type 0) : Type 0 where
   pub state : S
   pub transcript : List ℕ
 
--- what a line stands for: lines of the other language, one after another, or a new beginning
+-- what a line stands for: lines of the other language, one after another; or a new beginning, and
+-- such lines after it
 pub data Meaning : Type 0 where
   Lines : List (List ℕ) → Meaning
-  Anew : Meaning
+  Anew : List (List ℕ) → Meaning
 
 -- a line as a text has it: after a carriage return there is another one, since a text's line loses
 -- one
@@ -41,7 +42,7 @@ IsLine line = AllByRecursion (λ character. is_line_feed character ≡ false) li
 
 abbrev pub AreLines : Meaning → Type 0
 AreLines (Lines lines) = AllByRecursion IsLine lines
-AreLines Anew = Unit {0}
+AreLines (Anew lines) = AllByRecursion IsLine lines
 
 module _ {S : Type 0} where
   -- before the first line
@@ -79,7 +80,7 @@ module _ {S : Type 0} (language : Language S) where
   -- after a line of this meaning
   abbrev pub after_meaning : S → Recorded S → Meaning → Recorded S
   after_meaning opening recorded (Lines lines) = after_lines recorded lines
-  after_meaning opening recorded Anew = untouched opening
+  after_meaning opening recorded (Anew lines) = after_lines (untouched opening) lines
 
   -- a language of lines with a meaning each: its lines do to a transcript and to the state
   -- what they mean
