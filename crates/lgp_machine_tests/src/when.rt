@@ -142,6 +142,31 @@ fn codes_and_rows_are_printed(rt: HostRuntime) {
     );
 }
 
+#[test]
+fn a_word_is_changed_and_word_times_are_over(rt: HostRuntime) {
+    let alloc = rt.alloc();
+    let seen = [
+        met(alloc, Condition::Changed(address(64))),
+        asked(alloc, None, Condition::Changed(address(64)), 3, 1_000),
+        met(alloc, Condition::Changed(address(65))),
+        met(alloc, Condition::Clock(1)),
+        met(alloc, Condition::Clock(0)),
+        met(alloc, Condition::Clock(u64::MAX)),
+    ];
+    expect_eq(
+        &rt,
+        seen,
+        [
+            Some((3, false, true)),
+            Some((13, false, true)),
+            Some((1_000, false, false)),
+            Some((1, false, true)),
+            Some((1_000, false, false)),
+            Some((1_000, false, false)),
+        ],
+    );
+}
+
 /// Codes that end no row.
 fn without_rows<A: Allocator + Copy>(alloc: A) -> Option<Answer> {
     let mut debugger = looping(alloc, crate::PRINT)?;

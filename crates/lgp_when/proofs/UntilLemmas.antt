@@ -12,8 +12,9 @@ use Rattle.lgp_table.specs.After.{after}
 use Rattle.lgp_table.proofs.After.{after_one_more}
 use Rattle.lgp_when.specs.When.{meets, times_met}
 use Rattle.lgp_when.specs.declared.condition.Condition.{Condition}
-use Rattle.lgp_when.specs.WhenInside.{IsPaperOf, IsWatching, end_reason}
-use Rattle.lgp_when.specs.declared.paper.Paper.{Paper}
+use Rattle.lgp_when.specs.Meeting.{IsMeeting}
+use Rattle.lgp_when.specs.WhenInside.{IsWatching, end_reason}
+use Rattle.lgp_when.specs.declared.meeting.Meeting.{Meeting}
 use Rattle.lgp_when.specs.declared.watch.Watch.{Watch}
 use Rattle.lgp_when.specs.declared.until.Until.{Until}
 
@@ -54,14 +55,15 @@ abbrev one_if : Bool → ℕ
 one_if b = if b then 1 else 0
 
 -- one order more was looked at
-pub watching_more : (watch : Watch) (paper : Paper) (left : ℕ) (s : State) (count : ℕ) (met : Bool) → IsWatching watch s count → IsPaperOf paper (next (after s count)).printed
-    → met ≡ meets (after s count) watch.until.condition → watch.left ≡ left + one_if met
-    → IsWatching (record { until = watch.until; paper = paper; left = left }) s (count + 1)
-watching_more watch paper left s count met watching printed is less = record {
-  paper = subst (λ (t : State). IsPaperOf paper t.printed) (sym (after_one_more s count)) printed;
-  left = let more = one_more watch.until.condition s count in
+pub watching_more : (watch : Watch) (meeting : Meeting) (left : ℕ) (s : State) (count : ℕ) (met : Bool) → IsWatching watch s count → meeting.condition ≡ watch.meeting.condition
+    → IsMeeting meeting (next (after s count)) → met ≡ meets (after s count) watch.meeting.condition → watch.left ≡ left + one_if met
+    → IsWatching (record { meeting = meeting; times = watch.times; left = left }) s (count + 1)
+watching_more watch meeting left s count met watching condition seen is less = record {
+  meeting = subst (IsMeeting meeting) (sym (after_one_more s count)) seen;
+  left = let more = one_more watch.meeting.condition s count in
       let same = ap (λ (b : Bool). one_if b) is in
-      omega (arith, more, same, less, watching.left);
+      let met_as_often = ap (λ (c : Condition). times_met c s (count + 1)) condition in
+      omega (arith, met_as_often, more, same, less, watching.left);
 }
 
 -- none of the first orders ends the wait

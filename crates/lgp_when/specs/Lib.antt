@@ -1,4 +1,5 @@
 pub mod When
+pub mod Meeting
 pub mod Until
 pub mod WhenInside
 pub use Rattle.lgp_debugger.specs.Run

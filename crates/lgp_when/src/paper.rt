@@ -2,7 +2,7 @@
 
 ghost use Rattle.std.specs.Prelude.{◌≡◌, ◌≤◌, ◌==◌, length, take};
 ghost use Rattle.lgp_when.specs.When.{return_code, rows_in};
-ghost use Rattle.lgp_when.specs.WhenInside.{IsPaperOf};
+ghost use Rattle.lgp_when.specs.Meeting.{IsPaperOf};
 
 use lgp_flexo::Code;
 

@@ -1,37 +1,24 @@
 //! What a run waits for, order by order.
 
-ghost use Rattle.std.specs.Prelude.{◌≡◌, ℕ, ◌+◌, ◌<◌, OnErr, OnOk};
-ghost use Rattle.lgp_table.specs.Activity.{next};
+ghost use Rattle.std.specs.Prelude.{◌≡◌, ℕ, ◌+◌, ◌<◌, OnOk};
 ghost use Rattle.lgp_table.specs.After.{after};
 ghost use Rattle.lgp_table.specs.State.{State};
 ghost use Rattle.lgp_debugger.specs.Run.{IsOrderOfRun};
-ghost use Rattle.lgp_when.specs.When.{holds, meets};
-ghost use Rattle.lgp_when.specs.WhenInside.{IsPaperOf, IsWatching};
+ghost use Rattle.lgp_when.specs.Meeting.{IsMeeting};
+ghost use Rattle.lgp_when.specs.WhenInside.{IsWatching};
 
-use crate::condition::Condition;
-use crate::paper::Paper;
+use crate::meeting::Meeting;
 use crate::until::Until;
 use lgp_debugger::{Debugger, StepFault};
 use lgp_history::History;
 use std::alloc::Allocator;
 
-/// What a run waits for, how much is printed, and how often the condition is still to be met.
+/// What a run waits for, how often that is to be met, and how often still.
 #[derive(Drop)]
 pub(crate) struct Watch {
-    pub(crate) until: Until,
-    pub(crate) paper: Paper,
+    pub(crate) meeting: Meeting,
+    pub(crate) times: u64,
     pub(crate) left: u64,
-}
-
-/// Whether an order meets a condition, by whether that held before the order and after it.
-fn is_met(condition: &Condition, before: bool, after: bool) -> bool
-    ensures { (s : State) → before ≡ holds s condition.now → after ≡ holds (next s) condition.now
-        → result ≡ meets s condition.now }
-{
-    match condition {
-        Condition::At(_) => after,
-        _ => !before && after,
-    }
 }
 
 impl Watch {
@@ -41,21 +28,14 @@ impl Watch {
         until: &Until,
     ) -> Watch
         ensures watching { IsWatching result debugger.now.state 0 }
-        ensures until { result.until ≡ until.now }
+        ensures condition { result.meeting.condition ≡ until.now.condition }
+        ensures times { result.times ≡ until.now.times }
     {
         Watch {
-            until: *until,
-            paper: Paper::of(debugger.machine().printed()),
+            meeting: Meeting::new(until.condition, debugger.machine()),
+            times: until.times,
             left: until.times,
         }
-    }
-
-    /// Whether the condition holds where a debugger is.
-    fn holds<H: History<A>, A: Allocator>(&self, debugger: &Debugger<H, A>) -> bool
-        requires { IsPaperOf self.now.paper debugger.now.state.printed }
-        ensures { result ≡ holds debugger.now.state self.now.until.condition }
-    {
-        self.until.condition.holds(debugger.machine(), &self.paper)
     }
 
     /// One order of a run, and the number of the first rule that stops the run there. It is looked at whether it meets the condition, which
@@ -64,19 +44,19 @@ impl Watch {
         &mut self,
         debugger: &mut Debugger<H, A>,
     ) -> Result<Option<u8>, StepFault>
-        requires paper { IsPaperOf self.old.paper debugger.old.state.printed }
+        requires meeting { IsMeeting self.old.meeting debugger.old.state }
         requires left { 0 < self.old.left }
         ensures order { IsOrderOfRun debugger.old.rules debugger.old debugger.new result }
         ensures watched { OnOk result ((s : State) → (count : ℕ) → IsWatching self.old s count
             → debugger.old.state ≡ after s count → IsWatching self.new s (count + 1)) }
-        ensures until { self.new.until ≡ self.old.until }
+        ensures condition { self.new.meeting.condition ≡ self.old.meeting.condition }
+        ensures times { self.new.times ≡ self.old.times }
     {
-        let held = self.holds(debugger);
-        let stop = debugger.go_on()?;
-        self.paper = self.paper.with_more(debugger.machine().printed());
-        if is_met(&self.until.condition, held, self.holds(debugger)) {
+        let quiet = debugger.quiet();
+        let met = self.meeting.order(debugger, quiet)?;
+        if met.is_met {
             self.left -= 1;
         }
-        Ok(stop)
+        Ok(met.stop)
     }
 }

@@ -9,28 +9,33 @@ use Rattle.lgp_debugger.specs.declared.fault.Ran.{Ran}
 use Rattle.std.proofs.lemmas.Bool.{eq-eqb}
 use Rattle.lgp_when.specs.Until.{is_done, orders_until}
 use Rattle.lgp_when.specs.When.{times_met}
+use Rattle.lgp_when.specs.declared.condition.Condition.{Condition}
 use Rattle.lgp_when.specs.declared.until.Until.{Until}
 use Rattle.lgp_when.specs.declared.watch.Watch.{Watch}
-use Rattle.lgp_when.specs.WhenInside.{IsPaperOf, IsWatching, end_reason}
+use Rattle.lgp_when.specs.Meeting.{IsMeeting}
+use Rattle.lgp_when.specs.WhenInside.{IsWatching, end_reason}
 use Rattle.lgp_when.proofs.UntilLemmas.{before_any, before_more, done_by_left, ended_limited, ended_met, goes_further, is_not_done, some_left}
 use Rattle.lgp_when.proofs.until.run_until.Goals as goal
 
 -- what is waited for, by what the watch says of it
-abbrev left_of : (watch : Watch) (until : Until) (s : State) (count : ℕ) → IsWatching watch s count → watch.until ≡ until → times_met until.condition s count + watch.left ≡ until.times
-left_of watch until s count watching is = subst (λ (u : Until). times_met u.condition s count + watch.left ≡ u.times) is watching.left
+left_of : (watch : Watch) (until : Until) (s : State) (count : ℕ) → IsWatching watch s count → watch.meeting.condition ≡ until.condition → watch.times ≡ until.times
+    → times_met until.condition s count + watch.left ≡ until.times
+left_of watch until s count watching condition times =
+    ap (λ (c : Condition). times_met c s count + watch.left) (sym condition) ∙ (watching.left ∙ times)
 
 pub loop-orders-init : goal.loop-orders-init
 loop-orders-init g c = record {
   run = run_begun _ _;
   watching = c.new-watch.ensures.watching;
   before = before_any _ _;
-  until = c.new-watch.ensures.until;
+  condition = c.new-watch.ensures.condition;
+  times = c.new-watch.ensures.times;
 }
 
 pub returns-then-watch-eq0 : goal.returns-then-watch-eq0
 returns-then-watch-eq0 g c =
     let i = c.loop-orders.invariant in
-    let left = left_of c.loop-orders.watch c.args.until.now _ _ i.watching i.until in
+    let left = left_of c.loop-orders.watch c.args.until.now _ _ i.watching i.condition i.times in
     let met = sym (done_by_left c.args.until.now c.args.debugger.now.state c.loop-orders.orders c.loop-orders.watch.left left) ∙ eq-eqb c.loop-orders.watch.left 0 c.if-watch-eq0.true in
     record {
       run = subst (λ (ran : Ran). IsRun c.args.debugger.now.rules (orders_until c.args.until.now c.args.limit c.args.debugger.now.state) c.args.debugger.now c.loop-orders.debugger (Ok ran))
@@ -41,19 +46,19 @@ returns-then-watch-eq0 g c =
       within = subst (λ (ran : Ran). ran.orders ≤ c.args.limit) (sym c.ended-ran.ensures) (omega arith);
     }
 
-pub order-requires-clause-paper : goal.order-requires-clause-paper
-order-requires-clause-paper g c =
+pub order-requires-clause-meeting : goal.order-requires-clause-meeting
+order-requires-clause-meeting g c =
     let i = c.loop-orders.invariant in
-    subst (λ (t : State). IsPaperOf c.loop-orders.watch.paper t.printed) (sym (ap (λ (d : Debugging). d.state) i.run.reached ∙ performed_state _ _)) i.watching.paper
+    subst (IsMeeting c.loop-orders.watch.meeting) (sym (ap (λ (d : Debugging). d.state) i.run.reached ∙ performed_state _ _)) i.watching.meeting
 
 pub returns-in-Ok-Some : goal.returns-in-Ok-Some
 returns-in-Ok-Some g c =
     let i = c.loop-orders.invariant in
-    let left = left_of c.loop-orders.watch c.args.until.now _ _ i.watching i.until in
+    let left = left_of c.loop-orders.watch c.args.until.now _ _ i.watching i.condition i.times in
     let not = is_not_done c.args.until.now c.args.debugger.now.state c.loop-orders.orders c.loop-orders.watch.left left (some_left c.loop-orders.watch.left c.if-watch-eq0.false) in
     let goes = goes_further c.args.until.now c.args.limit c.args.debugger.now c.loop-orders.debugger c.loop-orders.orders i.before not c.loop-orders-test.true in
     let watching = c.in-Ok-Some.ensures.watched _ _ i.watching (ap (λ (d : Debugging). d.state) i.run.reached ∙ performed_state _ _) in
-    let later = left_of c.order.new.self c.args.until.now _ _ watching (c.order.ensures.until ∙ i.until) in
+    let later = left_of c.order.new.self c.args.until.now _ _ watching (c.order.ensures.condition ∙ i.condition) (c.order.ensures.times ∙ i.times) in
     record {
       run = run_stopped (λ rules. rules) c.args.debugger.now c.loop-orders.debugger c.order.new.debugger c.loop-orders.orders (orders_until c.args.until.now c.args.limit c.args.debugger.now.state) i.run
           _ c.in-Ok-Some.rule (ap Ok c.in-Ok-Some.field-0-is) c.in-Ok-Some.ensures.order goes;
@@ -65,7 +70,7 @@ returns-in-Ok-Some g c =
 pub returns-in-Err-AtRest : goal.returns-in-Err-AtRest
 returns-in-Err-AtRest g c =
     let i = c.loop-orders.invariant in
-    let left = left_of c.loop-orders.watch c.args.until.now _ _ i.watching i.until in
+    let left = left_of c.loop-orders.watch c.args.until.now _ _ i.watching i.condition i.times in
     let not = is_not_done c.args.until.now c.args.debugger.now.state c.loop-orders.orders c.loop-orders.watch.left left (some_left c.loop-orders.watch.left c.if-watch-eq0.false) in
     let goes = goes_further c.args.until.now c.args.limit c.args.debugger.now c.loop-orders.debugger c.loop-orders.orders i.before not c.loop-orders-test.true in
     record {
@@ -79,7 +84,7 @@ returns-in-Err-AtRest g c =
 pub returns-in-Err-ClockEnd : goal.returns-in-Err-ClockEnd
 returns-in-Err-ClockEnd g c =
     let i = c.loop-orders.invariant in
-    let left = left_of c.loop-orders.watch c.args.until.now _ _ i.watching i.until in
+    let left = left_of c.loop-orders.watch c.args.until.now _ _ i.watching i.condition i.times in
     let not = is_not_done c.args.until.now c.args.debugger.now.state c.loop-orders.orders c.loop-orders.watch.left left (some_left c.loop-orders.watch.left c.if-watch-eq0.false) in
     let goes = goes_further c.args.until.now c.args.limit c.args.debugger.now c.loop-orders.debugger c.loop-orders.orders i.before not c.loop-orders-test.true in
     record {
@@ -93,7 +98,7 @@ returns-in-Err-ClockEnd g c =
 pub returns-in-Err-Memory : goal.returns-in-Err-Memory
 returns-in-Err-Memory g c =
     let i = c.loop-orders.invariant in
-    let left = left_of c.loop-orders.watch c.args.until.now _ _ i.watching i.until in
+    let left = left_of c.loop-orders.watch c.args.until.now _ _ i.watching i.condition i.times in
     let not = is_not_done c.args.until.now c.args.debugger.now.state c.loop-orders.orders c.loop-orders.watch.left left (some_left c.loop-orders.watch.left c.if-watch-eq0.false) in
     let goes = goes_further c.args.until.now c.args.limit c.args.debugger.now c.loop-orders.debugger c.loop-orders.orders i.before not c.loop-orders-test.true in
     record {
@@ -107,20 +112,21 @@ returns-in-Err-Memory g c =
 pub loop-orders-preserved : goal.loop-orders-preserved
 loop-orders-preserved g c =
     let i = c.loop-orders.invariant in
-    let left = left_of c.loop-orders.watch c.args.until.now _ _ i.watching i.until in
+    let left = left_of c.loop-orders.watch c.args.until.now _ _ i.watching i.condition i.times in
     let not = is_not_done c.args.until.now c.args.debugger.now.state c.loop-orders.orders c.loop-orders.watch.left left (some_left c.loop-orders.watch.left c.if-watch-eq0.false) in
     record {
       run = run_step (λ rules. rules) c.args.debugger.now c.loop-orders.debugger c.order.new.debugger c.loop-orders.orders c.args.limit i.run
           _ (ap Ok c.in-Ok-None.field-0-is) c.in-Ok-None.ensures.order;
       watching = c.in-Ok-None.ensures.watched _ _ i.watching (ap (λ (d : Debugging). d.state) i.run.reached ∙ performed_state _ _);
       before = before_more _ _ _ i.before not;
-      until = c.order.ensures.until ∙ i.until;
+      condition = c.order.ensures.condition ∙ i.condition;
+      times = c.order.ensures.times ∙ i.times;
     }
 
 pub returns : goal.returns
 returns g c =
     let i = c.loop-orders.invariant in
-    let left = left_of c.loop-orders.watch c.args.until.now _ _ i.watching i.until in
+    let left = left_of c.loop-orders.watch c.args.until.now _ _ i.watching i.condition i.times in
     let all : c.args.limit ≡ c.loop-orders.orders = omega arith in
     let said = c.ended-ran-2.ensures ∙ ap (λ (n : ℕ). record { orders = n; reason = end_reason c.loop-orders.debugger.state }) all in
     record {

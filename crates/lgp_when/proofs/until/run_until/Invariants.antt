@@ -9,5 +9,6 @@ invariant-loop-orders g l = record {
   run : HasRun (λ rules. rules) l.fn.debugger l.debugger l.orders;
   watching : IsWatching l.watch l.fn.debugger.state l.orders;
   before : AreBefore l.fn.until l.fn.debugger.state l.orders;
-  until : l.watch.until ≡ l.fn.until;
+  condition : l.watch.meeting.condition ≡ l.fn.until.condition;
+  times : l.watch.times ≡ l.fn.until.times;
 }

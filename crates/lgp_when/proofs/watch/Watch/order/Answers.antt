@@ -1,35 +1,26 @@
 -- Whether the order meets the condition is seen, and so how often it is still to be met.
-use Rattle.std.proofs.Common.{◌≡◌, ℕ, ◌∙◌, true, false, List, arith, sym, ap, subst, add-zero}
+use Rattle.std.proofs.Common.{◌≡◌, ◌∙◌, true, false, arith, sym, ap, subst, add-zero}
 use Rattle.lgp_table.specs.Activity.{next}
 use Rattle.lgp_table.specs.After.{after}
-use Rattle.lgp_table.specs.Interleaving.{Configuration}
 use Rattle.lgp_table.specs.State.{State}
 use Rattle.lgp_debugger.specs.Debugging.{Debugging}
-use Rattle.lgp_when.specs.When.{holds, meets}
-use Rattle.lgp_when.specs.WhenInside.{IsPaperOf}
+use Rattle.lgp_when.specs.When.{meets}
+use Rattle.lgp_when.specs.Meeting.{IsMeeting}
 use Rattle.lgp_when.proofs.UntilLemmas.{watching_more}
 use Rattle.lgp_when.proofs.watch.Watch.order.Goals as goal
 
-pub returns-then-is_met-clause-watched : goal.returns-then-is_met-clause-watched
-returns-then-is_met-clause-watched g c s count watching there =
-    let moved : c.go_on.new.self.state ≡ next c.args.debugger.now.state = ap (λ (d : Debugging). d.state) c.in_ok-stop.ensures.2 in
-    let printed : c.printed.result.now ≡ (next (after s count)).printed =
-    c.printed.ensures ∙ ap (λ (m : Configuration). m.state.printed) c.machine.ensures ∙ ap (λ (t : State). t.printed) moved ∙ ap (λ (t : State). (next t).printed) there in
-    let met : true ≡ meets c.args.debugger.now.state c.args.self.now.until.condition =
-    sym c.if-is_met.true ∙ c.is_met.ensures c.args.debugger.now.state c.holds-held.ensures (c.holds.ensures ∙ ap (λ (t : State). holds t c.args.self.now.until.condition) moved) in
-    watching_more c.args.self.now c.with_more-self.result _ s count true watching
-    (subst (λ (codes : List ℕ). IsPaperOf c.with_more-self.result codes) printed c.with_more-self.ensures)
-    (met ∙ ap (λ (t : State). meets t c.args.self.now.until.condition) there)
+pub returns-then-met-clause-watched : goal.returns-then-met-clause-watched
+returns-then-met-clause-watched g c s count watching there =
+    let moved : c.order.new.debugger.state ≡ next (after s count) = ap (λ (d : Debugging). d.state) c.in_ok-met.ensures.order.2 ∙ ap next there in
+    watching_more c.args.self.now c.order.new.self _ s count true watching c.order.ensures.condition
+    (subst (IsMeeting c.order.new.self) moved c.in_ok-met.ensures.seen)
+    (sym c.if-met.true ∙ (c.in_ok-met.ensures.met ∙ ap (λ (t : State). meets t c.args.self.now.meeting.condition) there))
     (let some = c.requires.left in omega (arith, some))
 
-pub returns-else-is_met-clause-watched : goal.returns-else-is_met-clause-watched
-returns-else-is_met-clause-watched g c s count watching there =
-    let moved : c.go_on.new.self.state ≡ next c.args.debugger.now.state = ap (λ (d : Debugging). d.state) c.in_ok-stop.ensures.2 in
-    let printed : c.printed.result.now ≡ (next (after s count)).printed =
-    c.printed.ensures ∙ ap (λ (m : Configuration). m.state.printed) c.machine.ensures ∙ ap (λ (t : State). t.printed) moved ∙ ap (λ (t : State). (next t).printed) there in
-    let met : false ≡ meets c.args.debugger.now.state c.args.self.now.until.condition =
-    sym c.if-is_met.false ∙ c.is_met.ensures c.args.debugger.now.state c.holds-held.ensures (c.holds.ensures ∙ ap (λ (t : State). holds t c.args.self.now.until.condition) moved) in
-    watching_more c.args.self.now c.with_more-self.result _ s count false watching
-    (subst (λ (codes : List ℕ). IsPaperOf c.with_more-self.result codes) printed c.with_more-self.ensures)
-    (met ∙ ap (λ (t : State). meets t c.args.self.now.until.condition) there)
+pub returns-else-met-clause-watched : goal.returns-else-met-clause-watched
+returns-else-met-clause-watched g c s count watching there =
+    let moved : c.order.new.debugger.state ≡ next (after s count) = ap (λ (d : Debugging). d.state) c.in_ok-met.ensures.order.2 ∙ ap next there in
+    watching_more c.args.self.now c.order.new.self _ s count false watching c.order.ensures.condition
+    (subst (IsMeeting c.order.new.self) moved c.in_ok-met.ensures.seen)
+    (sym c.if-met.false ∙ (c.in_ok-met.ensures.met ∙ ap (λ (t : State). meets t c.args.self.now.meeting.condition) there))
     (sym (add-zero _))
