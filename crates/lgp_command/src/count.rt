@@ -1,6 +1,6 @@
 //! Numbers as lines have them.
 
-ghost use Rattle.std.specs.Prelude.{◌≡◌, ◌≤◌};
+ghost use Rattle.std.specs.Prelude.{◌≡◌, ◌≤◌, ◌^◌, None, Some, if◌then◌else◌, nat_lt};
 ghost use Rattle.lgp_command.specs.Command.{number_at};
 ghost use Rattle.lgp_command.specs.Operands.{IsCount};
 
@@ -28,6 +28,16 @@ impl Model for Count {
 }
 
 impl Count {
+    /// A number, if it has at most ten digits.
+    pub fn new(number: u64) -> Option<Count>
+        ensures { result ≡ (if nat_lt number (10 ^ 10) then Some number else None) }
+    {
+        if number < 10_000_000_000 {
+            return Some(Count { number });
+        }
+        None
+    }
+
     /// The number 1.
     pub fn one() -> Count
         ensures { result ≡ 1 }
