@@ -1,4 +1,5 @@
--- Part of the public promise: the first orders of a run, at most a given number of them.
+-- Part of the public promise: the first orders of a run, at most a given number of them, and runs
+-- whose orders are watched.
 use Rattle.std.specs.Prelude.{◌≡◌, ℕ, Bool, if◌then◌else◌, List, [], min, nat_lt}
 use Rattle.lgp_history.specs.declared.rule.Rule.{Rule}
 use Rattle.lgp_debugger.specs.Debugging.{performed}
@@ -21,3 +22,10 @@ pub record IsRunPart (by_rules : Bool) (limit most : ℕ) (old new : LabState) (
   pub orders : part.orders ≡ min most (orders_of_run by_rules limit old)
   pub goes_on : part.goes_on ≡ nat_lt most (orders_of_run by_rules limit old)
   pub after : new ≡ record old { debugger = performed old.debugger part.orders }
+
+-- all orders of a run by some rules were performed, and seen
+pub record IsWatched (rules : List Rule) (limit : ℕ) (old new : LabState) (orders : ℕ)
+    (Seen : Type 0) : Type 0 where
+  pub performs : orders ≡ orders_of (run_of rules limit old.debugger.state)
+  pub after : new ≡ record old { debugger = performed old.debugger orders }
+  pub seen : Seen

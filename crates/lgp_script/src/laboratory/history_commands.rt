@@ -4,11 +4,12 @@ ghost use Rattle.std.specs.Prelude.{◌≡◌, ◌++◌, IfOk, OnOk, not};
 ghost use Rattle.lgp_machine.specs.Answers.{passes_clock_end};
 ghost use Rattle.lgp_debugger.specs.Debugging.{order_origins};
 ghost use Rattle.lgp_debugger.specs.Run.{IsRun};
+ghost use Rattle.lgp_debugger.specs.Watching.{AreSeen};
 ghost use Rattle.lgp_script.specs.HistoryCommands.{orders_run, replied_to_back, replied_to_drop, replied_to_last, replied_to_rule, replied_to_run};
 ghost use Rattle.lgp_script.specs.LabState.{labels_of};
 ghost use Rattle.lgp_script.specs.LaboratoryInside.{goes_past};
 ghost use Rattle.lgp_script.specs.Reply.{IsReplied};
-ghost use Rattle.lgp_script.specs.RunPart.{IsRunPart, rules_if};
+ghost use Rattle.lgp_script.specs.RunPart.{IsRunPart, IsWatched, rules_if};
 ghost use Rattle.lgp_script.specs.UntilReply.{IsRepliedUntil};
 
 use super::{Laboratory, labels_in};
@@ -17,8 +18,8 @@ use crate::reply::Reply;
 use crate::run_part::RunPart;
 use crate::teller::Teller;
 use crate::until_reply::UntilReply;
-use lgp_debugger::{HitFault, Ran, Reason, RuleFault, RunFault, RunRefusal, passes_end};
-use lgp_history::{BackFault, Rule};
+use lgp_debugger::{HitFault, Ran, Reason, RuleFault, RunFault, RunRefusal, Watcher, passes_end};
+use lgp_history::{BackFault, Records, Rule};
 use lgp_when::{RanUntil, Until, run_until};
 use std::alloc::{AllocError, Allocator};
 
@@ -113,6 +114,28 @@ impl<A: Allocator + Copy> Laboratory<A> {
             self.debugger.run(limit)
         } else {
             self.debugger.run_freely(limit)
+        }
+    }
+
+    /// Performs the orders of a run, and has each of them watched. Returns how many they are. A refused growth leaves open how many were
+    /// performed.
+    pub fn run_watched<K, W: Watcher<Records<A>, A, K>>(
+        &mut self,
+        limit: u64,
+        watcher: &mut W,
+        kept: &mut K,
+    ) -> Result<u64, AllocError>
+        requires ready { W.ready watcher.old self.old.debugger kept.old }
+        ensures { IfOk result (λ orders. IsWatched
+            (W.in_force watcher.old self.old.debugger.rules) limit self.old self.new orders
+            (AreSeen (W.Sees watcher.old) self.old.debugger kept.old orders kept.new)) }
+    {
+        match self.debugger.run_watched(limit, watcher, kept) {
+            Ok(ran) => Ok(ran.orders),
+            Err(broken) => {
+                broken_off(&broken)?;
+                Ok(broken.orders)
+            }
         }
     }
 
