@@ -242,7 +242,7 @@ taken_whole : (r : Recorded LabState) (line : List ℕ) (later : List (List ℕ)
 unfolding lines_to
 taken_whole r line later left test = rw test refl
 
-all_more : (lab : LabState) (line : List ℕ) (later : List (List ℕ)) → all_orders lab (line ∷ later) ≡ orders_in lab (kept_of line) + all_orders (after_kept lab (kept_of line)) later
+pub all_more : (lab : LabState) (line : List ℕ) (later : List (List ℕ)) → all_orders lab (line ∷ later) ≡ orders_in lab (kept_of line) + all_orders (after_kept lab (kept_of line)) later
 unfolding all_orders
 all_more lab line later = refl
 

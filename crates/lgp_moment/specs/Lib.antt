@@ -1,5 +1,7 @@
 pub mod Moment
 pub mod MomentInside
+pub mod Search
+pub mod SearchInside
 pub use Rattle.lgp_script.specs.LabState
 pub use Rattle.lgp_script.specs.RunPart
 pub use Rattle.lgp_script.specs.Script

@@ -20,7 +20,10 @@ const LINE_ROOM: usize = 32;
 
 /// The command that a line of a script asks for, if it is no line of a source.
 #[tactic(auto, unfolding(crate::specs::Moment::command_in))]
-fn command_in<A: Allocator + Copy>(laboratory: &Laboratory<A>, line: &LineBytes) -> Option<Command>
+pub(crate) fn command_in<A: Allocator + Copy>(
+    laboratory: &Laboratory<A>,
+    line: &LineBytes,
+) -> Option<Command>
     ensures { result ≡ command_in laboratory.now line.now }
 {
     if laboratory.has_open_source()
