@@ -113,7 +113,7 @@ fn a_source_that_is_too_long_has_no_marks(rt: HostRuntime) {
 
 /// Runs that are reported in each way, with labels.
 const EACH: &[u8] =
-    b"source\nfirst z\n end\n.\nput 0000 b 0003\npress start\ntrace 1\nprofile 1\npress start\ndrum 2\nback 2\ntrace-data 1\nprofile-data 1\npanel-data\nlive\npress start\noptimum 1\npress start\noptimum 1 0000\noperate 1\nat 3 panel\nat 1 trace 2\nnew\nput 0000 p 0600\npress start\nrun 9 until printed 1\npaper\n";
+    b"source\nfirst z\n end\n.\nput 0000 b 0003\npress start\ntrace 1\nprofile 1\npress start\ndrum 2\nback 2\ntrace-data 1\nprofile-data 1\npanel-data\nlive\npress start\noptimum 1\npress start\noptimum 1 0000\noperate 1\nat 3 panel\nat 1 trace 2\nnew\nput 0000 p 0600\npress start\nrun 9 until printed 1\npaper\nto 1\nto last printed 1\nto 0\n";
 
 /// Questions of programs, each of which is answered by records.
 const ASKED: &[u8] =

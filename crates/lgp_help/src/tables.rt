@@ -5,7 +5,7 @@ pub const COMMAND_KEYS: [u8; 48] = *b"\
 command|group|operands|asks|does|refused|example";
 
 /// The commands, a row each: what it is called, its group, its operands, whether it only asks, what it does, when it is refused, and an example.
-pub const COMMANDS: [u8; 8423] = *b"\
+pub const COMMANDS: [u8; 8698] = *b"\
 put|machine|ttss WORD, or ttss FRACTION, ttss = NUMBER, ttss = NUMBER POINT, ttss OPERATION|no|puts a word at an address|while the machine is going: press manual first|put 0050 = 385\n\
 go|machine|ttss|no|starts the machine at an address, as an operator does|if there is no such address, or the clock would pass its limit|go 0000\n\
 mount|machine|TEXT|no|puts a tape in the reader|while the machine is going, or if the text contains a character that does not exist on tape|mount 12a'\n\
@@ -23,6 +23,7 @@ why|accounts|ttss|yes|says which step put a word where it is, and what was there
 back|accounts|NUMBER|no|goes NUMBER orders back|if fewer orders are kept|back 1\n\
 last|accounts||no|goes back to the latest order that a rule hits|if no rule hits any of the kept orders|last\n\
 at|accounts|NUMBER LINE|yes|answers LINE as at the beginning of the order of that number, counted from 0; nothing is changed|if fewer orders were performed, or where LINE is|at 0 panel\n\
+to|accounts|NUMBER, or first CONDITION, last CONDITION|no|brings the session to the beginning of an order, that of a number or the first or last one that meets a condition; the transcript becomes the lines that lead there|if there is no such order|to 0\n\
 panel|look||yes|shows the registers, switches, reader and clock in one line|never|panel\n\
 words|look|ttss NUMBER|yes|shows words as digits, at most 64|if the words would go past the end of the drum|words 0000 4\n\
 show|look|ttss NUMBER|yes|shows words as orders, at most 64|if the words would go past the end of the drum|show 0000 4\n\
@@ -39,7 +40,7 @@ rules|rules||yes|lists the rules with their numbers|never|rules\n\
 source|source|nothing, or FILE|no|opens a source, whose lines follow, up to a line with only a point; or assembles the source in a file|if the source has faults, which are listed|source\n\
 list|source||yes|shows the listing of the last source|if no source has been assembled yet|list\n\
 load|source||no|keys in the loader, which loads the last source|if no source has been assembled yet|load\n\
-do|files|FILE|no|types the lines of a file|if it cannot be read, or 16 files are already open|do lines.txt\n\
+do|files|FILE|no|takes the lines of a file as if they were typed|if it cannot be read, or 16 files are already open|do lines.txt\n\
 tape|files|FILE|no|mounts the tape in a file of tape text|if it cannot be read, or is not tape text|tape tape.txt\n\
 archive|files|FILE|no|mounts the tape in a file in the form of archives|if it cannot be read, or does not have this form|archive tape.txt\n\
 bytes|files|FILE|no|mounts the tape in a file with one byte for each code|if it cannot be read, or has a byte above 63|bytes tape.bin\n\

@@ -23,5 +23,6 @@ same_meaning recorded Objects (entry.Operate limit) kept = refl
 same_meaning recorded Objects (entry.Until condition limit) kept = refl
 same_meaning recorded Objects entry.Transcript kept = refl
 same_meaning recorded Objects entry.New kept = refl
+same_meaning recorded Objects (entry.To way) kept = refl
 same_meaning recorded Objects entry.Help kept = refl
 same_meaning recorded Objects (entry.HelpOf verb) kept = refl

@@ -9,3 +9,4 @@ pub mod Decimals
 pub mod ClosingLemmas
 pub mod ScaleLaws
 pub mod FormLemmas
+pub mod WayLines

@@ -1,5 +1,5 @@
 -- What typed lines stand for are lines, so that a transcript's lines are those.
-use Rattle.std.proofs.Common.{◌≡◌, ℕ, zero, suc, ◌&&◌, not, Bool, true, false, cond, is_some, List, [], ◌∷◌, ◌++◌, take, drop, get_or, refl, codes, arith}
+use Rattle.std.proofs.Common.{◌≡◌, ℕ, zero, suc, ◌-◌, ◌==◌, ◌&&◌, not, nat_lt, Option, Some, None, Bool, true, false, cond, is_some, List, [], ◌∷◌, ◌++◌, take, drop, get_or, refl, codes, arith}
 use Rattle.std.specs.List.{AllByRecursion, list_all}
 use Rattle.std.specs.Str.Lines.{lines}
 use Rattle.lgp_word.specs.Digits.{digit_byte, digits, digits_of, four_digits}
@@ -7,7 +7,9 @@ use Rattle.lgp_stream.specs.KeptLine.{kept_of, line_limit}
 use Rattle.lgp_stream.specs.Language.{is_line_feed, state_after}
 use Rattle.lgp_stream.specs.LineWords.{after_word, without_spaces}
 use Rattle.lgp_stream.specs.Transcript.{AreLines, IsLine, Lines, IsReportedByTranscript, Recorded, stand_in, untouched}
-use Rattle.lgp_stream.proofs.LineLaws.{reported_by_transcript}
+use Rattle.lgp_stream.proofs.LineLaws.{lines_are_lines, reported_by_transcript}
+use Rattle.lgp_moment.specs.Moment.{after_kept, first_orders, lines_to, orders_in}
+use Rattle.lgp_monitor.specs.Ways.{meaning_at_order, order_of_way}
 use Rattle.lgp_script.specs.Script.{script_language}
 use Rattle.lgp_script.specs.LabState.{LabState, opening_state}
 use Rattle.lgp_command.specs.Command.{text_after_word}
@@ -120,6 +122,27 @@ free-operated : (limit : ℕ) (lab : LabState) → AllByRecursion IsLine (operat
 unfolding operated
 free-operated limit lab = (free-run limit, free-operated_on limit limit (replied_to_run lab limit))
 
+-- the lines that lead to an order
+free-first : (order : ℕ) → AllByRecursion IsLine (first_orders order)
+free-first order = by_zero (order == 0) where
+  by_zero : (none : Bool) → AllByRecursion IsLine (cond none [] (command_text (commands.Orders order) [] ∷ []))
+  by_zero true = tt
+  by_zero false = (one_line (commands.Orders order) [] tt, tt)
+
+free-lines_to : (lab : LabState) (ls : List (List ℕ)) (order : ℕ) → AllByRecursion IsLine ls → AllByRecursion IsLine (lines_to lab ls order)
+unfolding lines_to
+free-lines_to lab [] order free = tt
+free-lines_to lab (line ∷ later) order free =
+    by_test (nat_lt order (orders_in lab (kept_of line))) (free-lines_to (after_kept lab (kept_of line)) later (order - orders_in lab (kept_of line)) free.1) where
+      by_test : (test : Bool) → AllByRecursion IsLine (lines_to (after_kept lab (kept_of line)) later (order - orders_in lab (kept_of line)))
+          → AllByRecursion IsLine (cond test (first_orders order) (stand_in (kept_of line) ∷ lines_to (after_kept lab (kept_of line)) later (order - orders_in lab (kept_of line))))
+      by_test true rest = free-first order
+      by_test false rest = (free-stand_in line free.0, rest)
+
+free-way : (recorded : Recorded LabState) (order : Option ℕ) → AreLines (meaning_at_order recorded order)
+free-way recorded None = tt
+free-way recorded (Some order) = free-lines_to opening_state (lines recorded.transcript) order (lines_are_lines recorded.transcript)
+
 free-meaning : (recorded : Recorded LabState) (asked : Entry) (line : List ℕ) → IsLine line → AreLines (meaning_of recorded asked (kept_of line))
 free-meaning recorded entry.Itself line free = (free-stand_in _ free, tt)
 free-meaning recorded (entry.Misformed part wrong) line free = (free-stand_in _ free, tt)
@@ -131,6 +154,7 @@ free-meaning recorded (entry.Until condition limit) line free = (free-run (order
 free-meaning recorded (entry.Asked question) line free = tt
 free-meaning recorded entry.Transcript line free = tt
 free-meaning recorded entry.New line free = tt
+free-meaning recorded (entry.To way) line free = free-way recorded (order_of_way recorded way)
 free-meaning recorded entry.Help line free = tt
 free-meaning recorded (entry.HelpOf verb) line free = tt
 

@@ -23,7 +23,7 @@ use Rattle.lgp_when.specs.declared.condition.Condition.TheVariants as conditions
 use Rattle.lgp_monitor.specs.Scaled.{point_of}
 use Rattle.lgp_monitor.specs.Mistakes.{address_mistake, takes_numbers, takes_place, value_mistake}
 use Rattle.lgp_monitor.specs.Verbs.{verb_names}
-use Rattle.lgp_monitor.specs.Wrongs.{name_wrong}
+use Rattle.lgp_monitor.specs.Wrongs.{name_wrong, next_word}
 use Rattle.lgp_monitor.specs.declared.data_question.DataQuestion.{DataQuestion}
 use Rattle.lgp_monitor.specs.declared.data_question.DataQuestion.TheVariants as data_questions
 use Rattle.lgp_monitor.specs.Telling.{form_of}
@@ -46,6 +46,9 @@ use Rattle.lgp_monitor.specs.declared.verb.Verb.TheVariants as verbs
 use Rattle.lgp_monitor.specs.declared.mistake.Mistake.TheVariants as mistakes
 use Rattle.lgp_monitor.specs.declared.wrong.LineWord.{LineWord}
 use Rattle.lgp_monitor.specs.declared.wrong.LineWord.TheVariants.{First, Second, Third}
+use Rattle.lgp_monitor.specs.declared.way.Way.TheVariants.{Order, Sought}
+use Rattle.lgp_moment.specs.declared.search.Which.{Which}
+use Rattle.lgp_moment.specs.declared.search.Which.TheVariants as whiches
 use Rattle.lgp_monitor.specs.declared.wrong.Part.TheVariants as parts
 use Rattle.lgp_monitor.specs.declared.wrong.Wrong.{Wrong}
 use Rattle.lgp_monitor.specs.declared.wrong.Wrong.TheVariants.{Operands}
@@ -291,6 +294,10 @@ asked_as_objects line (Err wrong) =
     if has_no_word line || is_some (command_of line) then asked_by (Err (Operands verbs.Line))
     else entry.Misformed parts.AfterName wrong
 
+-- the number after the name of a condition
+abbrev pub counted_by : Verb → List ℕ → Result ℕ Wrong
+counted_by verb operands = read_of verb (lone_number (after_word operands))
+
 -- with the names of the last source and the counter
 module _ (names : List (List ℕ × ℕ)) (counter : ℕ) where
   -- a range of words, by an address and a number
@@ -341,17 +348,27 @@ module _ (names : List (List ℕ × ℕ)) (counter : ℕ) where
       else optimum_of form place limit)
       (read_of (verbs.NumberAddress form) (lone_number (first_word operands)))
 
-  -- the condition that comes after `until`: so many codes or rows printed, or one on the machine at
-  -- an address
-  unfoldable pub condition_at : List ℕ → Result Condition Wrong
-  condition_at operands =
+  -- an address of which an order leaves another word
+  abbrev pub change_at : Verb → LineWord → List ℕ → Result Condition Wrong
+  change_at verb which operands =
+      and_then (λ place. read_of verb
+      (if has_no_word (after_word operands) then Some (conditions.Changed place) else None))
+      (first_address names counter verb which operands)
+
+  -- a condition that a command names, of which this is the first word: so many codes or rows
+  -- printed, so many word times over, a word changed, or one on the machine at an address
+  unfoldable pub condition_at : Verb → LineWord → List ℕ → Result Condition Wrong
+  condition_at verb which operands =
       if is_counted (codes "printed") operands
-      then read_of verbs.Run (option_map conditions.Printed (lone_number (after_word operands)))
+      then and_then (λ codes. Ok (conditions.Printed codes)) (counted_by verb operands)
       else (if is_counted (codes "rows") operands
-      then read_of verbs.Run (option_map conditions.Rows (lone_number (after_word operands)))
-      else and_then
-      (λ place. read_of verbs.Run (condition_of names place (after_word operands)))
-      (first_address names counter verbs.Run Third operands))
+      then and_then (λ rows. Ok (conditions.Rows rows)) (counted_by verb operands)
+      else (if is_counted (codes "clock") operands
+      then and_then (λ time. Ok (conditions.Clock time)) (counted_by verb operands)
+      else (if is_counted (codes "changed") operands
+      then change_at verb (next_word which) (after_word operands)
+      else and_then (λ place. read_of verb (condition_of names place (after_word operands)))
+      (first_address names counter verb which operands))))
 
   -- a run that ends with the order that meets a condition
   unfoldable pub run_entry : List ℕ → Result Entry Wrong
@@ -359,9 +376,24 @@ module _ (names : List (List ℕ × ℕ)) (counter : ℕ) where
       let until = after_word operands in
       and_then (λ limit. if bytes_eq (first_word until) (codes "until")
       then and_then (λ condition. Ok (entry.Until condition limit))
-      (condition_at (after_word until))
+      (condition_at verbs.Run Third (after_word until))
       else Err (Operands verbs.Run))
       (read_of verbs.Run (lone_number (first_word operands)))
+
+  -- to the first or the last order that meets a condition
+  abbrev pub to_sought : Which → List ℕ → Result Entry Wrong
+  to_sought which operands =
+      and_then (λ condition. Ok (entry.To (Sought which condition)))
+      (condition_at verbs.To Second operands)
+
+  -- to the beginning of an order: that of a number, or the first or the last one that meets a
+  -- condition
+  unfoldable pub to_entry : List ℕ → Result Entry Wrong
+  to_entry operands =
+      if bytes_eq (first_word operands) (codes "first") then to_sought whiches.First (after_word operands)
+      else (if bytes_eq (first_word operands) (codes "last")
+      then to_sought whiches.Last (after_word operands)
+      else read_of verbs.To (option_map (λ order. entry.To (Order order)) (lone_number operands)))
 
   -- a word for an address
   unfoldable pub put_entry : List ℕ → Result Entry Wrong
@@ -384,6 +416,7 @@ module _ (names : List (List ℕ × ℕ)) (counter : ℕ) where
       (option_and_then (asked_with command) (lone_number operands))
   entry_by operands (verbs.NumberAddress form) = optimum_entry form operands
   entry_by operands verbs.Run = run_entry operands
+  entry_by operands verbs.To = to_entry operands
   entry_by operands (verbs.Range command) =
       and_then (λ range. Ok (asked_of command range))
       (range_at (verbs.Range command) operands (after_word operands))

@@ -16,6 +16,7 @@ pub mod Operating
 pub mod OperatingInside
 pub mod Untils
 pub mod Moments
+pub mod Ways
 pub mod Monitor
 pub mod GoInside
 pub mod PerformingInside

@@ -3,7 +3,6 @@
 use Rattle.std.specs.Prelude.{ℕ, ◌||◌, ◌&&◌, Bool, true, false, not, if◌then◌else◌, is_some, nat_lt}
 use Rattle.std.specs.Prelude.{Option, None, unwrap_or, List, [], ◌∷◌, ◌++◌, codes}
 use Rattle.std.specs.Option.{option_map_or}
-use Rattle.std.specs.Str.Lines.{lines}
 use Rattle.lgp_word.specs.Digits.{digits_of}
 use Rattle.lgp_word.specs.Order.{plain_order}
 use Rattle.lgp_word.specs.declared.order.Op.TheVariants.{U}
@@ -23,8 +22,10 @@ use Rattle.lgp_script.specs.Script.{replied_to, script_language}
 use Rattle.lgp_script.specs.HistoryCommands.{orders_run, replied_to_run}
 use Rattle.lgp_script.specs.LabState.{LabState, labels_of, opening_state}
 use Rattle.lgp_script.specs.declared.refusal.Refusal.TheVariants.{TooLong}
-use Rattle.lgp_moment.specs.Moment.{all_orders, moment_of}
 use Rattle.lgp_monitor.specs.Moments.{line_there, moment_asked, not_yet_text}
+use Rattle.lgp_monitor.specs.Ways.{meaning_at_order, order_of_way, orders_there, refuses_way}
+use Rattle.lgp_monitor.specs.Ways.{reply_at_order, session_at}
+use Rattle.lgp_monitor.specs.declared.way.Way.{Way}
 use Rattle.lgp_monitor.specs.Closing.{closes_faulty, closing_reply}
 use Rattle.lgp_monitor.specs.Questions.{answer_to}
 use Rattle.lgp_monitor.specs.Forms.{form_line, help_text}
@@ -97,6 +98,14 @@ module _ (recorded : Recorded LabState) where
       ++ met_text (is_met condition limit recorded.state))
       (run_line (orders_done condition limit recorded.state) ∷ [])
 
+  -- a line that leads by a way to the beginning of an order, if there is one
+  abbrev pub answer_at_order : Way → Option ℕ → Answer (Recorded LabState)
+  answer_at_order way order = record {
+    reply = reply_at_order recorded way order;
+    after = after_meaning script_language opening_state recorded
+        (meaning_at_order recorded order);
+  }
+
   -- what a line of which this is kept stands for; what is shown stands for no line
   abbrev pub meaning_of : Entry → Kept → Meaning
   meaning_of entry.Itself kept = Lines (stand_in kept ∷ [])
@@ -108,7 +117,8 @@ module _ (recorded : Recorded LabState) where
   meaning_of (entry.Operate limit) kept = Lines (operated limit recorded.state).lines
   meaning_of (entry.Until condition limit) kept =
       Lines (run_line (orders_done condition limit recorded.state) ∷ [])
-  meaning_of entry.New kept = Anew
+  meaning_of entry.New kept = Anew []
+  meaning_of (entry.To way) kept = meaning_at_order recorded (order_of_way recorded way)
   meaning_of asked kept = Lines []
 
   -- nothing is replied to a blank line or a comment
@@ -129,6 +139,7 @@ module _ (recorded : Recorded LabState) where
   reply_of (entry.Asked question) kept = answer_to question recorded.state
   reply_of entry.Transcript kept = recorded.transcript
   reply_of entry.New kept = codes "new\n"
+  reply_of (entry.To way) kept = reply_at_order recorded way (order_of_way recorded way)
   reply_of entry.Help kept = help_text
   reply_of (entry.HelpOf verb) kept = form_line (first_word (after_word kept.front)) verb
 
@@ -150,6 +161,7 @@ module _ (recorded : Recorded LabState) where
   refused_of (entry.Operate limit) kept = is_refusal (operated limit recorded.state).last.reply
   refused_of (entry.Until condition limit) kept =
       is_refusal (replied_until condition limit recorded.state).reply
+  refused_of (entry.To way) kept = refuses_way recorded way
   refused_of asked kept = false
 
   -- what its answer is beside its text
@@ -209,23 +221,17 @@ module _ (recorded : Recorded LabState) where
   abbrev pub order_asked : Kept → Option ℕ
   order_asked kept = if is_some recorded.state.opened then None else moment_asked kept
 
-  -- how many orders there were, and the session as it was when one of them began
-  abbrev pub orders_there : ℕ
-  orders_there = all_orders opening_state (lines recorded.transcript)
-
-  abbrev pub session_at : ℕ → Recorded LabState
-  session_at order = moment_of recorded.transcript order
-
   -- a line answered there
   abbrev pub reply_there : RecordForm → Kept → ℕ → List ℕ
   reply_there form kept order =
-      if nat_lt orders_there order then not_yet_text orders_there
-      else reply_now (session_at order) form (line_there kept.front)
+      if nat_lt (orders_there recorded) order then not_yet_text (orders_there recorded)
+      else reply_now (session_at recorded order) form (line_there kept.front)
 
   abbrev pub answered_there : RecordForm → Kept → ℕ → Answered
   answered_there form kept order =
-      if nat_lt orders_there order then record { is_refused = true; has_objects = false }
-      else answered_now (session_at order) form (line_there kept.front)
+      if nat_lt (orders_there recorded) order
+      then record { is_refused = true; has_objects = false }
+      else answered_now (session_at recorded order) form (line_there kept.front)
 
   -- ---- a line
 

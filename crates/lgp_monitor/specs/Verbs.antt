@@ -31,6 +31,7 @@ verb_names =
     ∷ (codes "back", verbs.Number number_commands.Script)
     ∷ (codes "last", verbs.Lone lone_commands.Script)
     ∷ (codes "at", verbs.Moment)
+    ∷ (codes "to", verbs.To)
     ∷ (codes "panel", verbs.Lone lone_commands.ScriptQuestion)
     ∷ (codes "words", verbs.Range range_commands.Words)
     ∷ (codes "show", verbs.Range range_commands.Show)
@@ -94,7 +95,7 @@ operands_form (verbs.Number command) = codes " NUMBER"
 operands_form (verbs.NumberAddress reports.Columns) = codes " NUMBER or optimum NUMBER ttss"
 operands_form (verbs.NumberAddress (reports.Records form)) =
     codes " NUMBER or optimum-data NUMBER ttss"
-operands_form verbs.Run = codes " NUMBER or run NUMBER until CONDITION: ttss, a word as put ttss has it, ttss < NUMBER, printed NUMBER or rows NUMBER"
+operands_form verbs.Run = codes " NUMBER or run NUMBER until CONDITION: ttss, a word as put ttss has it, ttss < NUMBER, changed ttss, printed NUMBER, rows NUMBER or clock NUMBER"
 operands_form (verbs.Range command) = codes " ttss NUMBER, at most 64"
 operands_form verbs.ScaledRange = codes " ttss NUMBER, at most 64, or numbers ttss NUMBER POINT"
 operands_form verbs.CountedRange =
@@ -108,6 +109,8 @@ operands_form verbs.Source =
 operands_form verbs.File = codes " FILE, in the program lgp_monitor"
 operands_form verbs.Moment =
     codes " NUMBER LINE, answered as at the beginning of the order of that number, counted from 0"
+operands_form verbs.To =
+    codes " NUMBER, the beginning of the order of that number, counted from 0, or to first CONDITION or to last CONDITION, as help run has them"
 operands_form verbs.Line = codes " LINE, where LINE is one for programs, such as state-data"
 operands_form verbs.Command = codes " or help COMMAND"
 operands_form verbs.End = codes ", which ends the program lgp_monitor"
@@ -128,6 +131,7 @@ operands_kind verbs.Key = codes " button\n"
 operands_kind verbs.Source = codes " source\n"
 operands_kind verbs.File = codes " file\n"
 operands_kind verbs.Moment = codes " number line\n"
+operands_kind verbs.To = codes " order\n"
 operands_kind verbs.Line = codes " line\n"
 operands_kind verbs.Command = codes " command\n"
 operands_kind verbs.End = codes " alone\n"

@@ -7,7 +7,7 @@ use Rattle.lgp_monitor.specs.Mistakes.{has_capital, said_of}
 use Rattle.lgp_monitor.specs.Verbs.{operands_form}
 use Rattle.lgp_monitor.specs.declared.mistake.Mistake.TheVariants as mistakes
 use Rattle.lgp_monitor.specs.declared.wrong.LineWord.{LineWord}
-use Rattle.lgp_monitor.specs.declared.wrong.LineWord.TheVariants.{Name, First, Second, Third}
+use Rattle.lgp_monitor.specs.declared.wrong.LineWord.TheVariants.{Name, First, Second, Third, Fourth}
 use Rattle.lgp_monitor.specs.declared.wrong.Part.{Part}
 use Rattle.lgp_monitor.specs.declared.wrong.Part.TheVariants.{AfterName}
 use Rattle.lgp_monitor.specs.declared.wrong.Part.TheVariants as parts
@@ -20,6 +20,14 @@ line_word Name line = first_word line
 line_word First line = first_word (after_word line)
 line_word Second line = first_word (after_word (after_word line))
 line_word Third line = first_word (after_word (after_word (after_word line)))
+line_word Fourth line = first_word (after_word (after_word (after_word (after_word line))))
+
+-- the word after a word
+abbrev pub next_word : LineWord → LineWord
+next_word Name = First
+next_word First = Second
+next_word Second = Third
+next_word which = Fourth
 
 -- a part of a line: all of it, or what comes after the name of its command
 abbrev pub part_of : Part → List ℕ → List ℕ

@@ -11,7 +11,7 @@ ghost use Rattle.lgp_stream.specs.LineWords.{after_word, has_no_word};
 ghost use Rattle.lgp_text.specs.NamedValues.{named};
 ghost use Rattle.lgp_monitor.specs.Verbs.{verb_names};
 ghost use Rattle.lgp_monitor.specs.Wrongs.{name_wrong};
-ghost use Rattle.lgp_monitor.specs.Entry.{address_at, address_entry, and_then, as_objects, asked_alone, asked_as_objects, asked_at, asked_by, asked_of, asked_with, bound_at, condition_at, condition_of, digits_or_fraction, entry_by, entry_of, first_address, has_objects, in_form, is_counted, is_data, is_for_programs, is_objects, is_records, lone_point, lone_word, look_entry, numbers_entry, numbers_wrong, operand_at, operation_at, optimum_entry, optimum_of, plain_entry, point_at, put_entry, question_as_objects, range_at, read_of, report_as_objects, run_entry, telling_as_objects, typed_by, typed_entry, value_at, value_wrong, whole_at};
+ghost use Rattle.lgp_monitor.specs.Entry.{address_at, address_entry, and_then, as_objects, asked_alone, asked_as_objects, asked_at, asked_by, asked_of, asked_with, bound_at, change_at, condition_at, condition_of, counted_by, digits_or_fraction, entry_by, entry_of, first_address, has_objects, in_form, is_counted, is_data, is_for_programs, is_objects, is_records, lone_point, lone_word, look_entry, numbers_entry, numbers_wrong, operand_at, operation_at, optimum_entry, optimum_of, plain_entry, point_at, put_entry, question_as_objects, range_at, read_of, report_as_objects, run_entry, telling_as_objects, to_entry, to_sought, typed_by, typed_entry, value_at, value_wrong, whole_at};
 
 use crate::data_question::DataQuestion;
 use crate::mistake::{Mistake, address_mistake, takes_numbers, takes_place, value_mistake};
@@ -19,11 +19,13 @@ use crate::question::Question;
 use crate::scaled::Point;
 use crate::telling::{Report, Telling};
 use crate::verb::{AddressCommand, LoneCommand, NumberCommand, RangeCommand, Verb, verb_named};
+use crate::way::Way;
 use crate::wrong::{LineWord, Part, Wrong, name_wrong};
 use lgp_assembler::{Name, OperandFault, Symbols, address_operand, operation_word};
 use lgp_command::{Asked, Command, Count, Span, asked_in, is_comment, lone_count};
 use lgp_fields::RecordForm;
 use lgp_fraction::Fraction;
+use lgp_moment::Which;
 use lgp_stream::{LineBytes, Split, has_no_word, split_word};
 use lgp_when::Condition;
 use lgp_word::{Address, Word, read_digits};
@@ -45,6 +47,8 @@ pub enum Entry {
     Operate(Count),
     /// A run of at most a given number of orders that ends with the one that meets a condition.
     Until(Condition, Count),
+    /// A session brought to the beginning of an order.
+    To(Way),
     /// Something that is shown and changes nothing.
     Asked(Question),
     /// The script lines so far.
@@ -489,30 +493,60 @@ fn optimum_entry(
     optimum_of(names, counter, form, number.rest, limit)
 }
 
-/// The condition that comes after `until`.
+/// The number after the name of a condition.
+fn counted_by(verb: Verb, operands: &[u8]) -> Result<u64, Wrong>
+    ensures { result ≡ counted_by verb operands.now }
+{
+    match lone_count(split_word(operands).rest) {
+        Some(count) => Ok(count.get()),
+        None => Err(Wrong::Operands(verb)),
+    }
+}
+
+/// The change of the word at an address.
+fn change_at(
+    names: &[(Name, u16)],
+    counter: Address,
+    verb: Verb,
+    which: LineWord,
+    operands: &[u8],
+) -> Result<Condition, Wrong>
+    ensures { result ≡ change_at names.now counter verb which operands.now }
+{
+    let place = first_address(names, counter, verb, which, operands)?;
+    if has_no_word(split_word(operands).rest) {
+        Ok(Condition::Changed(place))
+    } else {
+        Err(Wrong::Operands(verb))
+    }
+}
+
+/// A condition that a command names, of which this word of the line is the first.
 #[tactic(auto, unfolding(crate::specs::Entry::condition_at))]
 fn condition_at(
     names: &[(Name, u16)],
     counter: Address,
+    verb: Verb,
+    which: LineWord,
     operands: &[u8],
 ) -> Result<Condition, Wrong>
-    ensures { result ≡ condition_at names.now counter operands.now }
+    ensures { result ≡ condition_at names.now counter verb which operands.now }
 {
     let rest = split_word(operands).rest;
     if is_counted(b"printed", operands) {
-        return match lone_count(rest) {
-            Some(count) => Ok(Condition::Printed(count.get())),
-            None => Err(Wrong::Operands(Verb::Run)),
-        };
+        return Ok(Condition::Printed(counted_by(verb, operands)?));
     }
     if is_counted(b"rows", operands) {
-        return match lone_count(rest) {
-            Some(count) => Ok(Condition::Rows(count.get())),
-            None => Err(Wrong::Operands(Verb::Run)),
-        };
+        return Ok(Condition::Rows(counted_by(verb, operands)?));
     }
-    let place = first_address(names, counter, Verb::Run, LineWord::Third, operands)?;
-    condition_of(names, place, rest).ok_or(Wrong::Operands(Verb::Run))
+    if is_counted(b"clock", operands) {
+        return Ok(Condition::Clock(counted_by(verb, operands)?));
+    }
+    if is_counted(b"changed", operands) {
+        return change_at(names, counter, verb, which.next(), rest);
+    }
+    let place = first_address(names, counter, verb, which, operands)?;
+    condition_of(names, place, rest).ok_or(Wrong::Operands(verb))
 }
 
 /// A run that ends with the order that meets a condition.
@@ -528,8 +562,39 @@ fn run_entry(names: &[(Name, u16)], counter: Address, operands: &[u8]) -> Result
     if until.word != b"until".as_slice() {
         return Err(Wrong::Operands(Verb::Run));
     }
-    let condition = condition_at(names, counter, until.rest)?;
+    let condition = condition_at(names, counter, Verb::Run, LineWord::Third, until.rest)?;
     Ok(Entry::Until(condition, limit))
+}
+
+/// To the first or the last order that meets a condition.
+fn to_sought(
+    names: &[(Name, u16)],
+    counter: Address,
+    which: Which,
+    operands: &[u8],
+) -> Result<Entry, Wrong>
+    ensures { result ≡ to_sought names.now counter which operands.now }
+{
+    let condition = condition_at(names, counter, Verb::To, LineWord::Second, operands)?;
+    Ok(Entry::To(Way::Sought(which, condition)))
+}
+
+/// To the beginning of an order.
+#[tactic(auto, unfolding(crate::specs::Entry::to_entry))]
+fn to_entry(names: &[(Name, u16)], counter: Address, operands: &[u8]) -> Result<Entry, Wrong>
+    ensures { result ≡ to_entry names.now counter operands.now }
+{
+    let Split { word, rest } = split_word(operands);
+    if word == b"first".as_slice() {
+        return to_sought(names, counter, Which::First, rest);
+    }
+    if word == b"last".as_slice() {
+        return to_sought(names, counter, Which::Last, rest);
+    }
+    match lone_count(operands) {
+        Some(order) => Ok(Entry::To(Way::Order(order))),
+        None => Err(Wrong::Operands(Verb::To)),
+    }
 }
 
 /// What a command asks for by itself; those of scripts are read as scripts have them.
@@ -586,6 +651,7 @@ fn entry_by(
         Verb::Number(command) => number_entry(command, operands),
         Verb::NumberAddress(form) => optimum_entry(names, counter, form, operands),
         Verb::Run => run_entry(names, counter, operands),
+        Verb::To => to_entry(names, counter, operands),
         Verb::Range(command) => range_entry(names, counter, command, operands),
         Verb::ScaledRange => numbers_entry(names, counter, operands),
         Verb::CountedRange => look_entry(names, counter, operands),

@@ -11,6 +11,7 @@ pub use question::Question;
 pub use scaled::Point;
 pub use telling::{Report, Telling};
 pub use verb::{AddressCommand, LoneCommand, NumberCommand, RangeCommand, Verb};
+pub use way::Way;
 pub use wrong::{LineWord, Part, Wrong};
 
 mod answered;
@@ -36,4 +37,5 @@ mod scaled;
 mod telling;
 mod until;
 mod verb;
+mod way;
 mod wrong;

@@ -34,6 +34,7 @@ use crate::reason::{is_refusal, push_refused, push_run_end};
 use crate::telling::{Telling, run_told};
 use crate::until::run_until;
 use crate::verb::Verb;
+use crate::way::go_to;
 use crate::wrong::{Part, Wrong, push_misformed};
 use lgp_command::{Command, Count, is_comment, text_after_word};
 use lgp_fields::RecordForm;
@@ -272,6 +273,7 @@ fn perform<A: Allocator + Copy, P: Progress>(
         Entry::Reported(telling, limit) => explain_run(alloc, recorder, telling, limit, reply),
         Entry::Operate(limit) => operate(alloc, recorder, limit, reply),
         Entry::Until(condition, limit) => run_until(alloc, recorder, condition, limit, reply),
+        Entry::To(way) => go_to(alloc, recorder, way, reply),
         Entry::Go(address) => {
             go(alloc, recorder, address, reply)?;
             Ok(false)

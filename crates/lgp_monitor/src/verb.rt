@@ -100,6 +100,8 @@ pub enum Verb {
     File,
     /// The number of an order, and a line that is answered as at its beginning.
     Moment,
+    /// The number of an order, or a condition that orders meet.
+    To,
     /// A line for programs.
     Line,
     /// A command or nothing.
@@ -109,7 +111,7 @@ pub enum Verb {
 }
 
 /// The commands by their first word.
-const VERBS: [Named<Verb>; 70] = [
+const VERBS: [Named<Verb>; 71] = [
     (b"put", Verb::Word),
     (b"go", Verb::Address(AddressCommand::Go)),
     (b"mount", Verb::Text),
@@ -133,6 +135,7 @@ const VERBS: [Named<Verb>; 70] = [
     (b"back", Verb::Number(NumberCommand::Script)),
     (b"last", Verb::Lone(LoneCommand::Script)),
     (b"at", Verb::Moment),
+    (b"to", Verb::To),
     (b"panel", Verb::Lone(LoneCommand::ScriptQuestion)),
     (b"words", Verb::Range(RangeCommand::Words)),
     (b"show", Verb::Range(RangeCommand::Show)),
@@ -205,7 +208,7 @@ pub fn named_verbs() -> &'static [Named<Verb>]
 }
 
 /// Where the commands for programs begin: no name in front of it ends in `-data`.
-const FIRST_FOR_PROGRAMS: usize = 48;
+const FIRST_FOR_PROGRAMS: usize = 49;
 
 /// The commands from that one on.
 fn verbs_for_programs() -> &'static [Named<Verb>]
@@ -236,7 +239,7 @@ pub fn operands_form(verb: Verb) -> &'static [u8]
         Verb::NumberAddress(Report::Columns) => b" NUMBER or optimum NUMBER ttss",
         Verb::NumberAddress(Report::Records(_)) => b" NUMBER or optimum-data NUMBER ttss",
         Verb::Run => {
-            b" NUMBER or run NUMBER until CONDITION: ttss, a word as put ttss has it, ttss < NUMBER, printed NUMBER or rows NUMBER"
+            b" NUMBER or run NUMBER until CONDITION: ttss, a word as put ttss has it, ttss < NUMBER, changed ttss, printed NUMBER, rows NUMBER or clock NUMBER"
         }
         Verb::Range(_) => b" ttss NUMBER, at most 64",
         Verb::ScaledRange => b" ttss NUMBER, at most 64, or numbers ttss NUMBER POINT",
@@ -254,6 +257,9 @@ pub fn operands_form(verb: Verb) -> &'static [u8]
         Verb::File => b" FILE, in the program lgp_monitor",
         Verb::Moment => {
             b" NUMBER LINE, answered as at the beginning of the order of that number, counted from 0"
+        }
+        Verb::To => {
+            b" NUMBER, the beginning of the order of that number, counted from 0, or to first CONDITION or to last CONDITION, as help run has them"
         }
         Verb::Line => b" LINE, where LINE is one for programs, such as state-data",
         Verb::Command => b" or help COMMAND",
@@ -277,6 +283,7 @@ pub fn operands_kind(verb: Verb) -> &'static [u8]
         Verb::Source => b" source\n",
         Verb::File => b" file\n",
         Verb::Moment => b" number line\n",
+        Verb::To => b" order\n",
         Verb::Line => b" line\n",
         Verb::Command => b" command\n",
     }

@@ -1,7 +1,7 @@
 //! What is wrong with a line that is in no command's form.
 
 ghost use Rattle.std.specs.Prelude.{◌≡◌, ◌++◌, OnOk};
-ghost use Rattle.lgp_monitor.specs.Wrongs.{line_word, misformed_text, name_wrong, part_of, wrong_text};
+ghost use Rattle.lgp_monitor.specs.Wrongs.{line_word, misformed_text, name_wrong, next_word, part_of, wrong_text};
 
 use crate::mistake::{Mistake, has_capital, push_mistake};
 use crate::verb::{Verb, operands_form};
@@ -18,6 +18,21 @@ pub enum LineWord {
     First,
     Second,
     Third,
+    Fourth,
+}
+
+impl LineWord {
+    /// The word after it.
+    pub(crate) fn next(self) -> LineWord
+        ensures { result ≡ next_word self }
+    {
+        match self {
+            LineWord::Name => LineWord::First,
+            LineWord::First => LineWord::Second,
+            LineWord::Second => LineWord::Third,
+            LineWord::Third | LineWord::Fourth => LineWord::Fourth,
+        }
+    }
 }
 
 /// What is wrong with a line in no command's form.
@@ -47,11 +62,13 @@ fn line_word(which: LineWord, line: &[u8]) -> &[u8]
     let name = split_word(line);
     let first = split_word(name.rest);
     let second = split_word(first.rest);
+    let third = split_word(second.rest);
     match which {
         LineWord::Name => name.word,
         LineWord::First => first.word,
         LineWord::Second => second.word,
-        LineWord::Third => split_word(second.rest).word,
+        LineWord::Third => third.word,
+        LineWord::Fourth => split_word(third.rest).word,
     }
 }
 

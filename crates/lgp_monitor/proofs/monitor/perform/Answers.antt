@@ -38,3 +38,11 @@ returns-in_ok-push_answer-in-Asked-clause-answer g c = λ text kept.
       reply = replied;
       after = sym (ap (λ (asked : Entry). after_meaning script_language opening_state c.args.recorder.now (meaning_of c.args.recorder.now asked c.args.line.now)) c.in-Asked.is ∙ after-none _ _);
     }
+
+pub returns-in_ok-begin_anew-in-New-clause-answer : goal.returns-in_ok-begin_anew-in-New-clause-answer
+returns-in_ok-begin_anew-in-New-clause-answer g c = λ text kept.
+    let replied : c.begin_anew.new.reply.items ≡ c.args.reply.now.items ++ reply_of c.args.recorder.now c.args.entry c.args.line.now = search rules in
+    record {
+      reply = replied;
+      after = c.in_ok-begin_anew-in-New.ensures.after ∙ sym (ap (λ (asked : Entry). after_meaning script_language opening_state c.args.recorder.now (meaning_of c.args.recorder.now asked c.args.line.now)) c.in-New.is ∙ after-none _ _);
+    }
