@@ -5,7 +5,7 @@ import { SWITCHES, commandsOf, liveOf, recordsOf } from "./replies.mjs";
 
 const POSITIONS = ["up", "down"];
 /** What may be waited for beside what is at an address. */
-const COUNTED = ["printed ", "rows "];
+const COUNTED = ["changed ", "clock ", "printed ", "rows "];
 
 export class Completion {
     #ask;
@@ -62,7 +62,8 @@ export class Completion {
             return [...commands.keys(), ...this.shortNames()].map((word) => `${word} `);
         }
         if (before[0] === "run" && before.length === 2) return ["until "];
-        if (before[0] === "until" || before[2] === "until") return [...COUNTED, ...(await this.#places())];
+        if (before[0] === "to" && before.length === 1) return ["first ", "last "];
+        if (["until", "to"].includes(before[0]) || before[2] === "until") return [...COUNTED, ...(await this.#places())];
         switch (commands.get(before[0])?.takes) {
             case "file":
             case "source":

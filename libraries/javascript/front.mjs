@@ -1,5 +1,6 @@
 // A sitting at a terminal: what a person types is answered line by line, nothing that was typed is lost, and what takes long can be
 // stopped.
+import { Ahead, goesBack } from "./ahead.mjs";
 import { NAME } from "./aliases.mjs";
 import { Editing, lastSource, partedAtOpen } from "./editing.mjs";
 import { Stopped } from "./engines.mjs";
@@ -10,7 +11,7 @@ import { END, INTERRUPT } from "./keyboard.mjs";
 import { bytesFrom, linesIn, textFrom, withoutReturn, wordsOf } from "./lines.mjs";
 import { LongLines, Progress, letOthersGo } from "./long.mjs";
 import { OWN, formsOf } from "./own.mjs";
-import { commandsOf, heldOf, isRefusal, linesOf, liveOf, panelOf } from "./replies.mjs";
+import { commandsOf, heldOf, isRefusal, liveOf, panelOf } from "./replies.mjs";
 import { NoMemory } from "./session.mjs";
 import { SHORT, meantBy } from "./shortcuts.mjs";
 import { saidOfStop } from "./stops.mjs";
@@ -35,6 +36,9 @@ const HEARS_EVERY = 50;
 /** The commands that write a file, with what stands after their first word. */
 const WRITING = /^ *(?:transcript|(?:copy|punch|save)(?:-\S+)?) +(.*?) *$/;
 
+/** A question about an order that no session has had, whose refusal says how many there were. */
+const BEYOND = "at 9999999999 panel-data";
+
 /** The commands that put the session away. */
 const PUTTING_AWAY = ["new", "resume", "to"];
 
@@ -56,6 +60,11 @@ export class Front {
     #long;
     #editing;
     #source = null;
+    /** The transcript at the order that was gone to last. */
+    #came = null;
+    #ahead = new Ahead();
+    /** Whether lines are kept that are typed to the engine. */
+    #isKept = true;
     #atHand = null;
     #isAsked = false;
     /** The line that was asked about: typed once more, it is done. */
@@ -258,11 +267,12 @@ export class Front {
             change: () => this.#change(operands, rest),
             display: () => this.#display(operands[0]),
             undisplay: () => this.#undisplay(operands[0]),
+            forward: () => this.#forward(operands[0]),
+            past: () => this.#past(),
             "put-listing": () => this.#putListing(line),
             edit: () => this.#edit(operands, rest),
             sessions: () => this.#listSessions(),
             resume: () => this.#resume(operands[0] ?? "1"),
-            to: () => this.#goTo(operands[0]),
             transcript: rest === "" ? null : () => this.#writeTranscript(rest),
             alias: () => this.#alias(operands, / *\S+ *\S* *(.*?) *$/.exec(line)[1]),
             unalias: () => this.#unalias(operands[0]),
@@ -275,6 +285,7 @@ export class Front {
         const form = `${command} ${operands.length}`;
         if (form === "source 0") return () => (this.#source = []);
         if (form === "new 0") return () => this.#beginAnew(line);
+        if (command === "to" && operands.length > 0) return () => this.#goTo(line);
         if (["help 0", "help 1"].includes(form)) return () => this.#help(line, operands[0]);
         if (form === "go 1") return () => this.#go(line);
         if (form === "press 1") return () => this.#press(line);
@@ -348,8 +359,11 @@ export class Front {
 
     /** Types a line and shows what is answered, and what there is to say about a stop. */
     async #answer(line) {
+        const [command, ...operands] = wordsOf(line);
+        const before = goesBack(command) && !this.#engine.isSourceOpen ? await this.#engine.ask("transcript") : null;
         const reply = await this.#type(line);
         this.#say(reply);
+        if (before !== null) this.#ahead.answered(command, operands, reply, before, await this.#engine.ask("transcript"));
         await this.#sayOfStop(line, reply);
     }
 
@@ -362,7 +376,7 @@ export class Front {
     /** Types a line to the engine, and keeps it. */
     async #type(line, options) {
         const reply = await this.#engine.type(line, options);
-        if (this.#engine.hasLeft) return reply;
+        if (this.#engine.hasLeft || !this.#isKept) return reply;
         this.#isFileTyped ||= await this.#readsFile(line);
         if (!this.#isFileTyped || this.#engine.isSourceOpen) this.#shelf.keepTyped(line);
         else {
@@ -404,14 +418,20 @@ export class Front {
 
     /** Types a line that has no portions: how long it takes is shown, and Ctrl-C takes it back. */
     async #patiently(line) {
-        const reply = await this.#typeStoppably(line, (progress) => progress.showTime());
-        if (reply === null) return this.#note(`${INDENT}stopped by Ctrl-C before it was done; ${TAKEN}`);
-        this.#say(reply);
-        await this.#sayOfStop(line, reply);
+        const reply = await this.#saidPatiently(line);
+        if (reply !== null) await this.#sayOfStop(line, reply);
     }
 
-    /** The reply to a line; null where Ctrl-C has taken it back. */
-    async #typeStoppably(line, show) {
+    /** The same; its reply, or null where it was taken back. */
+    async #saidPatiently(line, type) {
+        const reply = await this.#typeStoppably(line, (progress) => progress.showTime(), type);
+        if (reply === null) this.#note(`${INDENT}stopped by Ctrl-C before it was done; ${TAKEN}`);
+        else this.#say(reply);
+        return reply;
+    }
+
+    /** The reply to a line, which is kept where nothing else is said; null where Ctrl-C has taken it back. */
+    async #typeStoppably(line, show, type = (options) => this.#type(line, options)) {
         const progress = new Progress(this.#draw);
         const lines = [...this.#shelf.lines];
         let isOver = false;
@@ -425,7 +445,7 @@ export class Front {
             }
         })();
         try {
-            return await this.#type(line, { isLong: true });
+            return await type({ isLong: true });
         } catch (failure) {
             if (!(failure instanceof Stopped)) throw failure;
             return null;
@@ -439,8 +459,12 @@ export class Front {
     // ---- sessions
 
     async #beginAnew(line) {
-        const isThere = this.#shelf.lines.length > 0;
         this.#say(await this.#engine.type(line));
+        this.#putAway();
+    }
+
+    #putAway() {
+        const isThere = this.#shelf.lines.length > 0;
         this.#shelf.putSessionAway();
         if (isThere && this.#shelf.trouble === null) this.#note("the session before this one was saved: resume continues it");
     }
@@ -469,16 +493,57 @@ export class Front {
         if (source !== null && isDone) this.#openAgain(source);
     }
 
-    /** Goes to the beginning of an order, in a session of its own that does the lines which lead there. */
-    async #goTo(number) {
-        if (!isNumber(number)) {
-            return this.#refuse("to", number === undefined ? "the number of an order is missing" : `${number} is not a number`);
+    /** Goes to the beginning of an order. The session that is left is put away, unless all that it did was to go to one. */
+    async #goTo(line) {
+        const before = await this.#engine.ask("transcript");
+        const reply = await this.#saidPatiently(line, (options) => this.#engine.type(line, options));
+        if (reply === null || isRefusal(reply)) return;
+        if (this.#came !== before) this.#putAway();
+        this.#came = await this.#engine.ask("transcript");
+        this.#ahead.answered("to", [], reply, before, this.#came);
+        this.#shelf.keepSession(this.#came);
+    }
+
+    /** Tells how much lies behind: all can be gone back to, and it takes as long as it took. */
+    async #past() {
+        const reply = await this.#typeStoppably(BEYOND, (progress) => progress.showTime(), (options) => this.#engine.type(BEYOND, options));
+        if (reply === null) return this.#note(`${INDENT}stopped by Ctrl-C before it was done; ${TAKEN}`);
+        const transcript = await this.#engine.ask("transcript");
+        const [, orders] = /^\? 7 TooFar (\d+):/.exec(reply);
+        const script = `lines that lead here: ${linesIn(transcript).length}, bytes: ${transcript.length}`;
+        this.#note(`orders since the session began: ${orders}; ${script}`);
+    }
+
+    /** Goes forward again over what was gone back over: a number of orders, or all. */
+    async #forward(number) {
+        if (number !== undefined && !isNumber(number)) return this.#refuse("forward", `${number} is not a number`);
+        const orders = number === undefined ? null : Number(number);
+        const transcript = await this.#engine.ask("transcript");
+        const why = this.#ahead.refusalAt(transcript, orders);
+        if (why !== null) return this.#note(why);
+        const { lines, line } = this.#ahead.way(orders);
+        const isWhole = await this.#doneAgain(lines, line);
+        const now = await this.#engine.ask("transcript");
+        if (!isWhole) this.#putAway();
+        if (this.#came === transcript) this.#came = now;
+        this.#ahead.went(now, isWhole ? orders : null);
+        this.#shelf.keepSession(now);
+    }
+
+    /** Does lines of a session again, and then another one; whether Ctrl-C did not stop it. All of the lines are kept before. */
+    async #doneAgain(lines, last) {
+        this.#shelf.keepSession(lines.map((line) => `${line}\n`).join(""));
+        this.#isKept = false;
+        try {
+            await this.#engine.type("new");
+            const { done } = await this.#repeat(lines);
+            if (done < lines.length) return false;
+            const reply = last === null ? "" : await this.#engine.type(last);
+            if (!isRefusal(reply)) this.#say(reply);
+            return true;
+        } finally {
+            this.#isKept = true;
         }
-        const there = await this.#engine.ask(`at ${number} panel`);
-        if (isRefusal(there)) return this.#say(there);
-        const lines = linesOf(await this.#engine.ask(`at ${number} transcript`));
-        await this.#beginAnew("new");
-        await this.#repeatAll(lines);
     }
 
     /** Does lines again, and says how many; whether all of them were done. */

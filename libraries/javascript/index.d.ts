@@ -250,6 +250,10 @@ export class Laboratory {
     paper(): string;
     /** Goes back over `orders` orders, to where the first of them began, and tells the clock there. */
     back(orders: number): bigint;
+    /** Goes to the beginning of an order: that of a number, or the first or the last one since the beginning that meets a condition such as
+     * `changed 0100` or `printed 20`. Tells its number. The transcript is then the lines that lead there. A `TooFar` or `NoHit` is thrown where
+     * there is no such order; then nothing is changed. */
+    to(order: number | { first: string } | { last: string }): number;
     /** A laboratory of its own, as this one was when the order of a number began. Orders are counted from 0, and the number of all orders
      * leads to the present. A `TooFar` is thrown where fewer were performed; its `detail` says how many. */
     at(order: number): Laboratory;

@@ -34,6 +34,15 @@ function countIn(count) {
     return String(count);
 }
 
+/** The order that `to` takes, as a line has it: a number, or the first or the last one that meets a condition. */
+function wayIn(order) {
+    if (typeof order === "number") return [countIn(order)];
+    const [[which, condition], ...others] = Object.entries(order ?? {}).length > 0 ? Object.entries(order) : [[]];
+    const isSought = ["first", "last"].includes(which) && typeof condition === "string" && others.length === 0;
+    if (!isSought) throw new TypeError(`an order is a number, { first: CONDITION } or { last: CONDITION }, and not ${told(order)}`);
+    return [which, condition];
+}
+
 /** A word in digits as a number with its point after a bit; with 30 it is whole. */
 export function numberOf(digits, point = POINT) {
     if (!Number.isInteger(point)) throw new TypeError(`a point is a whole number, and not ${told(point)}`);
@@ -254,6 +263,10 @@ export class Laboratory {
 
     back(orders) {
         return replies.clockOf(this.#asked("back", countIn(orders)));
+    }
+
+    to(order) {
+        return replies.orderOf(this.#asked("to", ...wayIn(order)));
     }
 
     at(order) {

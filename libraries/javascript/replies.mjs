@@ -177,6 +177,9 @@ export function ordersOf(reply) {
 /** The clock that `back` or `turn` tells. */
 export const clockOf = (reply) => BigInt(decimalIn(wordsAfter("clock", linesOf(reply)[0])[0]));
 
+/** The number of the order to whose beginning `to` went. */
+export const orderOf = (reply) => numberIn(wordsAfter("order", linesOf(reply)[0])[0]);
+
 /** How many orders `last` went back, and the rule that they hit. */
 export function lastOf(reply) {
     const [orders, , rule] = wordsAfter("back", linesOf(reply)[0]);

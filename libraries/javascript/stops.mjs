@@ -40,7 +40,13 @@ async function ruleLines(ask, command, reply) {
 async function fartherBack(ask, reply) {
     const kept = /^\? (?:7 TooFar|8 NoHit) (\d+):/.exec(reply)?.[1];
     if (kept === undefined || isRefusal(await ask(`at ${Number(kept) + 1} panel-data`))) return [];
-    return ["earlier orders are not kept: to NUMBER goes to the beginning of any order of this session, in a session of its own"];
+    return ["earlier orders are not kept: to NUMBER and to last CONDITION go to the beginning of any order of this session"];
+}
+
+/** What finds the order that changed a word, where no step that is kept did. */
+function earlierChange(reply) {
+    const address = /^(\d{4})[^:]*:.*, changed by no kept step$/m.exec(reply)?.[1];
+    return address === undefined ? [] : [`to last changed ${address} goes to the order that changed it last, if one did`];
 }
 
 /** What is said below a reply. */
@@ -50,6 +56,7 @@ export async function saidOfStop(ask, command, reply, standstill) {
     if (isWithoutRules) return ["there are no rules: break and watch add one"];
     if (command === "back" || command === "last" && isRefusal(reply)) return fartherBack(ask, reply);
     if (command === "load" && !isRefusal(reply)) return loadedLines(ask);
+    if (command === "why") return earlierChange(reply);
     return ruleLines(ask, command, reply);
 }
 

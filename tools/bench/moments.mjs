@@ -1,6 +1,7 @@
 // How long it takes to ask about a moment of a long session: after 100 million orders of a loop, about the first order, about the one in
-// the middle, one order back, and in the debug adapter the last change of a word that was written at the beginning; and after a million
-// presses, about the order before them. With the module in node, and with the proved program where it is built.
+// the middle, one order back, and to go to the last change of a word that was written at the beginning, by the monitor and by the debug
+// adapter; and after a million presses, about the order before them. With the module in node, and with the proved program where it
+// is built.
 //
 //     node tools/bench/moments.mjs [MILLIONS OF ORDERS]
 //
@@ -41,7 +42,10 @@ async function typed(engine, lines) {
 /** What each question about a long run takes in an engine. */
 async function ofRun(engine) {
     await typed(engine, [...LOOP, `run ${orders}`]);
-    const asked = [["the first order", "at 0 panel-data"], ["the middle", `at ${orders / 2} panel-data`], ["one order back", "back 1"]];
+    const asked = [
+        ["the first order", "at 0 panel-data"], ["the middle", `at ${orders / 2} panel-data`], ["one order back", "back 1"],
+        ["to the last change", "to last changed 0052"],
+    ];
     const told = [];
     for (const [what, line] of asked) told.push([what, await seconds(() => typed(engine, [line]))]);
     await engine.close();

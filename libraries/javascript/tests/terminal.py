@@ -266,7 +266,7 @@ def help_that_teaches():
     terminal = Terminal(columns=80)
     terminal.shown("> ")
     shown = terminal.type("help\r", BEGUN)
-    assert "accounts trace profile drum optimum why back last at\n" in shown and "look around step" in shown, shown
+    assert "accounts trace profile drum optimum why back last at to\n" in shown and "look around step" in shown, shown
     shown = terminal.type("?\r", BEGUN)
     assert "accounts trace profile" in shown, shown
     shown = terminal.type("help trace\r", BEGUN)

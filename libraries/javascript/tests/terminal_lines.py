@@ -72,7 +72,8 @@ def a_run_ends_where_a_condition_is_met():
     terminal.type("until val\t", "value")
     terminal.type(CTRL_C, "going> ")
     terminal.type("run 5 unt\t", "until ")
-    terminal.type("value < 9\r", "        the condition is not met\n")
+    shown = terminal.type("value < 9\r", "going> ")
+    assert "        the condition is not met\n" in shown, shown
     # one that is never met goes on until Ctrl-C
     terminal.type("until value = 9\r", "(Ctrl-C stops)")
     shown = terminal.type(CTRL_C, "going> ")
@@ -85,22 +86,73 @@ def a_run_ends_where_a_condition_is_met():
     assert "counter 0002 " in shown, shown
     terminal.type("at 3 why val\t", "value")
     terminal.type(CTRL_C, "going> ")
-    # and it can be gone to, in a session of its own
+    # and it can be gone to; the session that is left is put away
     shown = terminal.type("to 3\r", "going> ")
-    assert "the session before this one was saved" in shown and "lines repeated: " in shown, shown
+    assert "order 3 clock " in shown and "the session before this one was saved" in shown, shown
     shown = terminal.type("transcript\r", "going> ")
     assert shown.rstrip().split("\n")[-2].strip() == "orders 1", shown
     terminal.type("resume\r", "going> ")
     shown = terminal.type("transcript\r", "going> ")
     assert "run 2\nrun 5\nrun 100000\n" in shown, shown
     shown = terminal.type("to\r", "going> ")
-    assert "the number of an order is missing" in shown, shown
+    assert "? 1 Form: to NUMBER, the beginning of the order of that number" in shown, shown
     shown = terminal.type("to 9999999999\r", "going> ")
-    assert "? 7 TooFar " in shown, shown
+    assert "? 7 TooFar " in shown and "saved" not in shown, shown
+    # from one order to the next, only what was left first is put away
+    terminal.type("to last chan\t", "changed ")
+    terminal.type(CTRL_C, "going> ")
+    terminal.type("to la\t", "last ")
+    shown = terminal.type("0001\r", "going> ")
+    assert "order " in shown and "the session before this one was saved" in shown, shown
+    shown = terminal.type("to last 0001\r", "going> ")
+    assert "order " in shown and "saved" not in shown, shown
+    shown = terminal.type("to last printed 7\r", "going> ")
+    assert "? 8 NoHit " in shown and ": none of the orders meets it" in shown, shown
+    terminal.type("resume\r", "going> ")
+    shown = terminal.type("transcript\r", "going> ")
+    assert "run 2\nrun 5\nrun 100000\n" in shown, shown
     left(terminal)
     terminal = begun()
     shown = terminal.type("until printed 1\r", BEGUN)
     assert "ran 0 rest\n        the condition is not met\n        the operator halted the machine" in shown, shown
+    left(terminal)
+
+
+def what_was_gone_back_over_is_gone_forward_to():
+    terminal = begun()
+    shown = terminal.type("forward\r", BEGUN)
+    assert "nothing was gone back over: back, last and to go back\n" in shown, shown
+    for line in ("put 0000 b 0003", "put 0001 u 0000", "put 0003 = 5", "go 0000", "run 20"):
+        terminal.type(f"{line}\r", "> ")
+    there = terminal.type("panel\r", "going> ").split("clock ")[1].split()[0]
+    whole = terminal.type("transcript\r", "going> ")
+    shown = terminal.type("past\r", "going> ")
+    assert "orders since the session began: 21; lines that lead here: 13, bytes: " in shown, shown
+    # by back, in two steps, and forward in two
+    terminal.type("back 3\r", "going> ")
+    terminal.type("back 4\r", "going> ")
+    terminal.type("forward 5\r", "going> ")
+    shown = terminal.type("transcript\r", "going> ")
+    assert "run 20\npanel\nback 2\n" in shown, shown
+    terminal.type("forward\r", "going> ")
+    assert terminal.type("transcript\r", "going> ") == whole
+    assert f" {there}" in terminal.type("json panel-data\r", "going> ").replace(":", " ").replace("}", " ")
+    # by to, and an empty line goes on
+    terminal.type("to 4\r", "going> ")
+    shown = terminal.type("forward 2\r", "going> ")
+    assert "order 6 clock " in shown, shown
+    shown = terminal.type("\r", "going> ")
+    assert "order 8 clock " in shown, shown
+    terminal.type("forward 99\r", "going> ")
+    assert terminal.type("transcript\r", "going> ") == whole
+    # not where something else was done
+    terminal.type("back 2\r", "going> ")
+    terminal.type("put 0005 = 3\r", "going> ")
+    terminal.type("press manual\r", "> ")
+    shown = terminal.type("forward\r", "> ")
+    assert "something else was done since then: p" in shown, shown
+    shown = terminal.type("forward x\r", "> ")
+    assert "x is not a number" in shown, shown
     left(terminal)
 
 
@@ -125,7 +177,9 @@ def what_goes_farther_back_is_told():
     terminal = begun()
     for line in ("put 0000 u 0000", "go 0000", "run 5000", "break 0001"):
         terminal.type(f"{line}\r", "> ")
-    told = "        earlier orders are not kept: to NUMBER goes to the beginning of any order of this session, in a session of its own\n"
+    shown = terminal.type("why 0000\r", "> ")
+    assert "changed by no kept step\n        to last changed 0000 goes to the order that changed it last, if one did\n" in shown, shown
+    told = "        earlier orders are not kept: to NUMBER and to last CONDITION go to the beginning of any order of this session\n"
     for line, refused in (("b 4097", "? 7 TooFar 4096: only this many orders are kept\n"),
                           ("last", "? 8 NoHit 4096: this many orders are kept, and no rule hits any of them\n")):
         shown = terminal.type(f"{line}\r", "going> ")
@@ -139,7 +193,7 @@ def own_lines_are_refused_by_their_forms():
     for line, refusal in [
             ("resume x", "resume or resume NUMBER: x is not the number of a session; sessions lists them"), ("resume 1 2", "resume or resume NUMBER: 2 is a word too many"),
             ("around 0000 2 3", "around or around ttss or around ttss NUMBER: 3 is a word too many"), ("step x", "step or step NUMBER: x is not a number"),
-            ("until", "until ttss or until ttss WORD or until ttss = NUMBER or until ttss < NUMBER or until printed NUMBER or until rows NUMBER: what to wait for is missing"),
+            ("until", "until ttss or until ttss WORD or until ttss = NUMBER or until ttss < NUMBER or until changed ttss or until printed NUMBER or until rows NUMBER or until clock NUMBER: what to wait for is missing"),
             ("look 1", "look: 1 is a word too many"), ("sessions 1", "sessions: 1 is a word too many"), ("unalias", "unalias NAME: a name is missing"),
             ("change 0000", "change ttss WORD, and each other form of put: a word is missing"), ("edit 5", "edit or edit NUMBER or edit FILE: there is no source yet"),
             ("put-listing", "column 12: a line of a listing begins with an address, two digits for the track and two for the sector"),
@@ -305,5 +359,5 @@ def files_that_are_replaced():
     left(terminal)
 
 
-CHECKS = [what_is_pasted_is_text, a_stop_is_told, a_run_ends_where_a_condition_is_met, why_nothing_is_done, what_goes_farther_back_is_told, own_lines_are_refused_by_their_forms, words_that_are_displayed_and_changed, short_names, a_source_that_is_edited,
+CHECKS = [what_is_pasted_is_text, a_stop_is_told, a_run_ends_where_a_condition_is_met, what_was_gone_back_over_is_gone_forward_to, why_nothing_is_done, what_goes_farther_back_is_told, own_lines_are_refused_by_their_forms, words_that_are_displayed_and_changed, short_names, a_source_that_is_edited,
           a_source_that_is_edited_by_lines, what_is_completed_besides, files_that_are_replaced]

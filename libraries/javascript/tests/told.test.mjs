@@ -119,6 +119,7 @@ const REASONS = {
     "if no rule has this number: the command rules lists them": { so: [], not: ["break 0000"], refusal: /^\? 6 NoRule/ },
     "if no source has been assembled yet": { so: ["source", " x", "."], not: SOURCE, refusal: /^\? 10 NoImage/ },
     "if fewer orders were performed, or where LINE is": { wrong: "at 1 panel" },
+    "if there is no such order": { wrong: "to 1" },
     "if there is no such command": { wrong: "help foo" },
     "if LINE is not for programs": { wrong: "json panel" },
 };

@@ -8,6 +8,7 @@ const laboratory = new Laboratory(compiled(bytes), { region: 1 << 20 });
 const digits: string | undefined = laboratory.words("0050", 2).get("0050");
 const { orders, rule }: { orders: number; rule: number | null } = laboratory.run(10);
 const clock: bigint = laboratory.back(orders) + laboratory.panel().clock;
+const there: number = laboratory.to(orders) + laboratory.to({ last: "changed 0050" });
 const sums: number[] = laboratory.trace(10).map(({ cost, stored }) => cost + (stored?.after.number ?? 0));
 const { text, questions } = runScript(bytes, "panel\n");
 const rows: string[] = laboratory.paper().split("\n");

@@ -276,6 +276,16 @@ class Laboratory:
         """Goes back a number of orders, and gives the clock there. Raises TooFarError where fewer are kept."""
         return int(self._asked(f"back {_count(orders)}").split()[1])
 
+    def to(self, order: "int | None" = None, *, first: "str | None" = None, last: "str | None" = None) -> int:
+        """Goes to the beginning of an order, and gives its number: the order of a number, or the first or the last one since the beginning
+        that meets a condition, such as `changed 0100` or `printed 20`. The transcript is then the lines that lead there. Raises TooFarError or
+        NoHitError where there is no such order; then nothing is changed."""
+        ways = [("", None if order is None else _count(order)), ("first ", first), ("last ", last)]
+        chosen = [name + way for name, way in ways if way is not None]
+        if len(chosen) != 1:
+            raise ValueError("one of order, first and last is given")
+        return int(self._asked(f"to {chosen[0]}").split()[1])
+
     def at(self, order: int) -> "Laboratory":
         """A laboratory of its own, as this one was when the order of a number began. Orders are counted from 0, and the number of all orders
         leads to the present. Raises TooFarError where fewer were performed; its `detail` says how many."""

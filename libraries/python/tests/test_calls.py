@@ -155,6 +155,24 @@ def test_a_laboratory_of_its_own_at_each_order(loaded):
         next(loaded.moments(0))
 
 
+def test_a_laboratory_is_brought_to_an_order(loaded):
+    loaded.run(100)
+    assert loaded.to(last="changed sum") == 3
+    assert loaded.numbers("sum") == {"0005": 0}
+    with pytest.raises(condugwa.TooFarError) as refused:
+        loaded.to(4)
+    assert refused.value.detail == 3
+    with pytest.raises(condugwa.NoHitError) as refused:
+        loaded.to(first="changed sum")
+    assert refused.value.detail == 3
+    assert loaded.to(order=1) == 1
+    assert loaded.transcript().endswith("press start\n")
+    assert loaded.run(100) == condugwa.Run(4, "rest")
+    for call in (loaded.to, lambda: loaded.to(1, first="changed sum")):
+        with pytest.raises(ValueError, match="one of order, first and last"):
+            call()
+
+
 def test_a_line_that_was_refused_is_refused_again_in_a_moment(laboratory):
     with pytest.raises(condugwa.FormError):
         laboratory.answer("no such command")

@@ -262,6 +262,7 @@ ASKED = {
     "optimum": lambda laboratory: laboratory.optimum(1),
     "optimum_of": lambda laboratory: laboratory.optimum_of(1, "0000"),
     "back": lambda laboratory: laboratory.back(1),
+    "to": lambda laboratory: laboratory.to(1),
     "put": lambda laboratory: laboratory.put("0000", 1),
     "go": lambda laboratory: laboratory.go("0000"),
     "source": lambda laboratory: laboratory.source(" z\n end\n"),
