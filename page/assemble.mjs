@@ -2,7 +2,7 @@
 // EXHIBITS, written to standard output.
 import { readFileSync } from "node:fs";
 import { exhibitsBelow, lessonsBelow, remarksBelow, scriptsBelow, sharedSheetsBelow, sourcesBelow, tasksBelow } from "./documents.mjs";
-import { packed, packedText } from "./packed.mjs";
+import { packedModule, packedText } from "./packed.mjs";
 
 const [template, style, lacking, shared, begin, main, worker, module, shelf, lessons, tasks, notices, exhibits] = process.argv.slice(2);
 const text = (path) => readFileSync(path, "utf8");
@@ -27,8 +27,11 @@ function once(notices) {
     return told.filter((paragraph, place) => paragraph !== told[place - 1]).join("\n\n");
 }
 
+/** JSON with its line feeds as they are, which packs better; the page puts them back. */
+const withLineFeeds = (json) => json.replaceAll(/\\(.)/g, (whole, sign) => (sign === "n" ? "\n" : whole));
+
 /** What the page has of other files of the repository, as one text. */
-const texts = JSON.stringify({
+const texts = withLineFeeds(JSON.stringify({
     examples: Object.fromEntries(scriptsBelow(shelf)),
     remarks: remarksBelow(shelf),
     sources: sourcesBelow(shelf),
@@ -37,13 +40,12 @@ const texts = JSON.stringify({
     tasks: tasksBelow(tasks, shelf),
     licences: once(text(notices)),
     exhibits: exhibitsBelow(exhibits, shelf),
-});
+}));
 const parts = {
     LACKING: inert(text(lacking)),
     SHARED: inert(text(shared)),
     BEGIN: inert(text(begin)),
-    PARTS: packedText([style, main, worker].map(text).join("\0")),
-    MODULE: packed(readFileSync(module)),
-    TEXTS: packedText(texts),
+    PARTS: packedText([...[style, main, worker].map(text), texts].join("\0")),
+    MODULE: packedModule(readFileSync(module)),
 };
 process.stdout.write(text(template).replace(/@([A-Z]+)@/g, (whole, name) => parts[name] ?? whole));

@@ -3,7 +3,9 @@
 // (lacking.js), and what unpacks (shared.mjs), with which the Worker begins as well.
 const put = (kind, text) => document.head.append(Object.assign(document.createElement(kind), { textContent: text }));
 
-const [style, main, worker] = globalThis.unpackedText(document.getElementById("parts").textContent).split("\0");
+// the last of the texts is left to the script, which asks for it later
+globalThis.packedTexts = globalThis.unpackedTexts(document.getElementById("parts").textContent);
+const [style, main, worker] = [1, 2, 3].map(() => globalThis.packedTexts.next().value);
 put("style", style);
 document.getElementById("worker").textContent = document.getElementById("shared").textContent + worker;
 // a task of its own, so that the browser can hear in between what was pressed

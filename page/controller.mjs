@@ -16,11 +16,39 @@ const TOLD_AT_ONCE = 48;
 const STEPPED_AT_ONCE = 200;
 const LAST_TOLD = 12;
 const TO_PRINT = 50;
+/** Up to which order the machine is gone to by performing all again at once, and how many orders are performed at once on the way. */
+const AT_ONCE = 2_000_000;
+const ON_THE_WAY = 500_000;
+/** For how many orders, taken as often as rows are asked for, each row's place is asked. */
+const ROWS_ASKED = 10_000_000;
+const MUCH = 1000;
+/** How many steps the machine keeps. */
+const KEPT = 4096;
+/** More orders than a session performs. */
+const ENDLESS = 9_999_999_999;
 const PLACED_AT_MOST = 10_000;
 const NEW = /^ *new *$/;
 const IN_DIGITS = /^ *put +\d{4} +[0-9fgjkqw]{8} *$/;
 const STEPS = new Set(["put", "mount", "press", "type", "turn"]);
 const RUNS = new Set(["run", "operate", "trace", "profile", "drum", "optimum", "trace-data", "profile-data", "optimum-data"]);
+
+/** How many orders a line has performed, by its reply; null where that does not tell it. */
+function performedBy(line, reply) {
+    const [verb] = plainOf(line).trim().split(/ +/);
+    if (!["go", "orders"].includes(verb) && !RUNS.has(verb) || reply === "") return 0;
+    if (verb === "go") return Number(/^orders (\d+)/m.exec(reply)?.[1] ?? 0);
+    const { end } = commandIn(line) === "json" ? replies.reportOf(reply) : replies.toldOf(reply);
+    if (replies.isRefusal(end) || replies.startsOf(reply) > 0) return null;
+    return verb === "orders" ? replies.ordersOf(reply).orders : replies.runOf(end).orders;
+}
+
+/** The lines that assemble a source. */
+const linesOfSource = (source) => ["source", ...linesIn(source).map((line) => (line === "." ? " ." : line)), "."];
+
+/** Whether lines that were gone back over are kept where something else is done: what an operator did, or many orders. */
+const isMuch = (lines) => (
+    lines.some((line) => !line.startsWith("orders ")) || lines.reduce((sum, line) => sum + Number(line.split(" ")[1]), 0) >= MUCH
+);
 
 /** An action that was not begun, and the notice that says why. */
 class Held extends Error {
@@ -89,9 +117,9 @@ export class Controller extends EventTarget {
     begunAt = 0n;
     /** How many orders were performed since the laboratory was opened, and again where they were performed again. */
     performed = 0;
-    /** Lines that only ask and leave no trace, which a view wants asked at each look as well, and their last replies. */
-    questionsToo = [];
+    /** The last replies to `questionsToo`, none before the first look with them. */
     answers = [];
+    #questionsToo = [];
     /** Addresses whose words a view wants known at each look as well, also while a run goes on; and these words, by their addresses. */
     wordsToo = [];
     known = new Map();
@@ -117,6 +145,9 @@ export class Controller extends EventTarget {
     #cache;
     #isPrinted = false;
     #between = null;
+    /** How many orders the monitor has performed, and before the last line; null where its reply did not tell that. */
+    #count = 0;
+    #countBefore = 0;
 
     constructor(link) {
         super();
@@ -124,6 +155,16 @@ export class Controller extends EventTarget {
         this.#queries = new Queries(link);
         this.#cache = new WordCache(link);
         this.#transcript = new Transcript(link);
+    }
+
+    /** Lines that only ask and leave no trace, which a view wants asked at each look as well. Replies to others are forgotten. */
+    get questionsToo() {
+        return this.#questionsToo;
+    }
+
+    set questionsToo(lines) {
+        if (lines.join("\n") === this.#questionsToo.join("\n")) return;
+        [this.#questionsToo, this.answers] = [lines, []];
     }
 
     /** Opens the laboratory, and asks which commands there are, and which operations wait for a word. */
@@ -177,6 +218,11 @@ export class Controller extends EventTarget {
         return this.#said;
     }
 
+    /** The lines that do again what was gone back over. */
+    get later() {
+        return this.history.later;
+    }
+
     /** Whether the monitor has a command. */
     knows(command) {
         return this.#commands.has(command);
@@ -187,6 +233,8 @@ export class Controller extends EventTarget {
     #act(action) {
         const done = this.#tail.then(async () => {
             this.isActing = true;
+            const { later } = this;
+            const before = later.length > 0 ? [...this.lines] : [];
             try {
                 return await action();
             } catch (failure) {
@@ -194,11 +242,18 @@ export class Controller extends EventTarget {
                 return undefined;
             } finally {
                 Object.assign(this, { isActing: false, progress: null });
+                if (this.history.left > 0 && isMuch(later)) this.#tellLeft([...before, ...later]);
+                this.history.left = 0;
                 this.dispatchEvent(new Event("change"));
             }
         });
         this.#tail = done;
         return done;
+    }
+
+    /** Something else was done in place of what was ahead, to which these lines lead. */
+    #tellLeft(lines) {
+        this.dispatchEvent(Object.assign(new Event("left"), { lines }));
     }
 
     /** An action whose lines an open source would take for its own: while one is open it is held. */
@@ -298,20 +353,37 @@ export class Controller extends EventTarget {
         );
         this.#isRuleOfScript = [];
         this.#said = [];
+        this.#count = 0;
         this.#cache.forget();
         this.#transcript.begin();
     }
 
-    #ask(line) {
+    async #ask(line) {
         if (commandIn(plainOf(line)) !== "trace-data") this.#cache.forget();
         this.#budget.sent(line);
-        return this.#link.ask(line);
+        const reply = await this.#link.ask(line);
+        this.#countBefore = this.#count;
+        const performed = this.openSource === null ? performedBy(line, reply) : 0;
+        this.#count = performed === null || this.#count === null ? null : this.#count + performed;
+        return reply;
+    }
+
+    /** How many orders the monitor has performed: it is asked where no reply has told that. Null where it does not know it either. */
+    async #counted() {
+        if (this.#count !== null) return this.#count;
+        const reply = await this.#link.ask(`at ${ENDLESS} panel`);
+        const { kind, number } = replies.isRefusal(reply) ? replies.refusalOf(reply) : {};
+        this.#count = kind === "TooFar" ? number : null;
+        return this.#count;
     }
 
     /**
      * Asks a line that the reader sees, and notes what it did. Of a line that the page asks for itself the end of the reply alone is shown.
      */
     async #say(line, isAgain = false, isOwn = false) {
+        const parts = this.openSource === null ? this.#budget.partsOf(line, ON_THE_WAY) : [];
+        for (const part of parts.slice(1)) await this.#say(part, isAgain, isOwn);
+        if (parts.length > 1) return this.#say(parts[0], isAgain, isOwn);
         if (this.openSource === null && await this.#isLongRun(line)) return this.#longRun(line);
         const before = this.openSource === null && NEW.test(line) ? await this.#offer() : null;
         this.#said.push(line);
@@ -390,13 +462,14 @@ export class Controller extends EventTarget {
         if (last !== undefined) last.register ??= null;
         const [noted] = hasNames ? await this.#transcript.last(1) : [line];
         if (verb === "type") await this.#lookAtPaper();
+        this.history.mark("hand");
         this.history.line(noted, isAgain, verb === "type" ? this.printed.text.length : null);
     }
 
     /** Orders were performed that were not told: what was told before them are not the last orders any more. */
     #noteOrders(count, isAgain = false) {
         this.performed += count;
-        this.history.orders(count, isAgain);
+        this.history.orders(count, isAgain, this.#count === null ? undefined : this.#count - count);
         this.#budget.ran(count);
         if (count > 0) Object.assign(this, { accounts: [], rows: [], loading: null });
     }
@@ -407,8 +480,10 @@ export class Controller extends EventTarget {
         const { told, end } = isReport ? replies.reportOf(reply) : replies.toldOf(reply);
         const before = this.accounts;
         const isRefused = replies.isRefusal(end);
-        if (verb === "operate") this.#noteStarts(replies.startsOf(reply), Number(limit));
+        const starts = verb === "operate" ? replies.startsOf(reply) : 0;
+        this.#noteStarts(starts, Number(limit));
         if (isRefused) this.#forgetHistory();
+        else if (starts > 0) await this.#noteWhole([line], this.#countBefore, this.history, replies.runOf(end).orders);
         else this.#noteEnd(replies.runOf(end), isAgain);
         if (isReport && verb === "profile-data") this.profile = replies.profileOf(told);
         if (isReport && verb === "trace-data") this.#noteTold(this.#accountsOf(told), before);
@@ -420,15 +495,23 @@ export class Controller extends EventTarget {
         }
     }
 
-    /**
-     * Start was pressed this number of times, each time after a run. The reply does not report how many orders these runs had, so they
-     * cannot be gone back over.
-     */
+    /** Start was pressed this number of times, each time after a run. The reply does not report how many orders these runs had. */
     #noteStarts(starts, limit) {
-        if (starts === 0) return;
-        this.#forgetHistory();
         this.performed += starts * limit;
         this.#budget.ran(starts * limit);
+    }
+
+    /**
+     * Lines were done as one, after what is in the history: their first order has this number, and their last run so many. Where it is not
+     * known how many there were, no others can be gone back over.
+     */
+    async #noteWhole(lines, first, history, last) {
+        this.history = history;
+        const count = first === null ? null : await this.#counted();
+        if (count === null) history.clear();
+        if (count === null) history.orders(last);
+        else history.whole({ lines, orders: count - first, first, last });
+        Object.assign(this, { accounts: [], rows: [], loading: null });
     }
 
     /** The accounts that records tell, each with the word that its order used. */
@@ -440,6 +523,12 @@ export class Controller extends EventTarget {
     #noteTold(accounts, before) {
         this.accounts = [...before, ...accounts].slice(-ACCOUNTS_KEPT);
         this.#cache.told(accounts);
+        for (const [at, { stored }] of accounts.entries()) {
+            const isChanged = stored !== null && stored.before.digits !== stored.after.digits;
+            if (isChanged && this.rules.some((rule) => rule.startsWith(`watch ${stored.address}`))) {
+                this.history.mark("watch", this.history.behind - accounts.length + at + 1);
+            }
+        }
         this.#isPrinted ||= accounts.some(({ printed }) => printed !== null);
     }
 
@@ -463,16 +552,24 @@ export class Controller extends EventTarget {
      */
     #noteEnd({ orders, end, rule }, isAgain) {
         this.#noteOrders(orders, isAgain);
-        if (this.#isInScript || isAgain) return;
-        if (end === "rule") this.#hit = rule;
-        else if (orders === 0 && end === "rest") this.notice = { kind: "atRest" };
+        if (isAgain) return;
+        if (end === "rule") this.#noteHit(rule);
+        else if (!this.#isInScript && orders === 0 && end === "rest") this.notice = { kind: "atRest" };
+    }
+
+    /** A rule has stopped a run. */
+    #noteHit(rule) {
+        if (!this.#isInScript) this.#hit = rule;
+        this.history.mark(this.rules[rule]?.startsWith("watch") ? "watch" : "stop");
     }
 
     /** The source that assembled last is on the drum. */
     #noteLoad(reply) {
-        this.#forgetHistory();
         const { source, cells, kinds } = this.#image;
-        Object.assign(this, { loaded: source, kinds, loading: { words: cells, orders: replies.loadedOf(reply) } });
+        this.history.whole({ lines: [...linesOfSource(source), "load"], orders: 0, image: this.#image });
+        Object.assign(
+            this, { loaded: source, kinds, loading: { words: cells, orders: replies.loadedOf(reply) }, accounts: [], rows: [] }
+        );
     }
 
     /** A line `new` begins without a script, but where it is a script's. */
@@ -512,11 +609,14 @@ export class Controller extends EventTarget {
         const isWhole = !this.#cache.isTold;
         if (isWhole) this.#noteState(await this.#queries.state());
         else await this.#lookAtOnce();
-        const asked = [this.#lookAtWords(isWhole), this.#queries.others(this.questionsToo)];
+        const { questionsToo } = this;
+        const asked = [this.#lookAtWords(isWhole), this.#queries.others(questionsToo)];
         if (isWhole) asked.push(this.#queries.rules().then((rules) => { this.rules = rules; }));
         if (isWhole || this.#isPrinted) asked.push(this.#lookAtPaper());
         else this.#budget.printed(this.printed.count);
-        [, this.answers] = await Promise.all(asked);
+        const [, answers] = await Promise.all(asked);
+        if (questionsToo === this.questionsToo) this.answers = answers;
+        await this.#markRows();
         if (this.#hit !== null) {
             this.notice = {
                 kind: "rule", number: this.#hit, rule: this.rules[this.#hit], isOfScript: this.#isRuleOfScript[this.#hit] ?? false,
@@ -537,7 +637,7 @@ export class Controller extends EventTarget {
     #noteState({ panel, live }) {
         const before = this.panel?.counter;
         Object.assign(this, { panel, costs: this.#costsOfLine });
-        if (this.history.behind + this.history.forgotten === 0) this.begunAt = panel.clock;
+        if (this.history.behind === 0) this.begunAt = panel.clock;
         [this.#live, this.#costsOfLine] = [live, null];
         this.accounts = this.accounts.filter(({ clock }) => clock < panel.clock);
         const last = this.accounts.at(-1);
@@ -569,6 +669,19 @@ export class Controller extends EventTarget {
             this,
             { words: this.#cache.words(shown), track: this.#cache.words(track).map(({ address, digits }) => ({ address, text: digits })) }
         );
+    }
+
+    /** Marks the rows that were printed since: each at its place where there are not too many of them, else all at once. */
+    async #markRows() {
+        const rows = this.printed.text.split("\n").length - 1;
+        const isOfLast = this.printed.text.endsWith("\n") && this.lastTold !== null && this.lastTold.printed !== null;
+        if (isOfLast && rows === this.history.lastRow.rows + 1) this.history.mark("row", this.history.behind, rows);
+        for (let { lastRow: last } = this.history; last.rows < rows; last = this.history.lastRow) {
+            const isDear = this.progress !== null || this.isOnShow || (rows - last.rows) * (this.#count ?? Infinity) > ROWS_ASKED;
+            const place = isDear ? null : await this.#placeOf(`rows ${last.rows + 1}`, last.place);
+            this.history.mark("row", place ?? this.history.behind, place === null ? rows : last.rows + 1);
+            if (this.history.lastRow === last) return;
+        }
     }
 
     async #lookAtPaper() {
@@ -678,19 +791,111 @@ export class Controller extends EventTarget {
         return orders;
     }
 
-    /** Goes back by orders, as far as steps are kept. */
+    /** Goes back by orders: beyond those that are kept by performing all again up to there. */
     back(orders) {
         return this.#action(async () => {
+            const { behind } = this.history;
             const reply = await this.#say(`back ${orders}`);
-            if (replies.isRefusal(reply)) await this.#backAsFar(replies.refusalOf(reply));
+            if (replies.isRefusal(reply) && replies.refusalOf(reply).kind === "TooFar") {
+                this.notice = null;
+                await this.#goTo(behind - Math.min(behind, orders));
+            }
             await this.#look();
         });
     }
 
-    async #backAsFar({ kind, number }) {
-        if (kind !== "TooFar") return;
-        this.history.keep(number);
-        if (number > 0) await this.#say(`back ${number}`);
+    /** Goes to the beginning of an order of the whole run, by its place; as far as it is not stopped before. */
+    goTo(place) {
+        return this.#action(async () => {
+            await this.#goTo(place);
+            if (this.wantsLast) await this.#tellLast();
+            await this.#look();
+        });
+    }
+
+    async #goTo(place) {
+        this.#stops = false;
+        const { behind } = this.history;
+        const number = this.history.numberAt(place);
+        if (place < behind && number > AT_ONCE) {
+            const reply = await this.#ask(`back ${behind - place}`);
+            if (!replies.isRefusal(reply)) {
+                this.#said.push(`back ${behind - place}`);
+                this.accounts = [];
+                return this.#noteBack(behind - place);
+            }
+            this.history.back(behind);
+            await this.#to(this.history.numberAt(0), 0);
+        }
+        if (place < this.history.behind) {
+            this.history.back(behind - place);
+            await this.#to(number, Math.min(LAST_TOLD, this.history.unbroken));
+        }
+        return this.#forwardTo(place);
+    }
+
+    /** Goes to the order that printed the first sign of a row of the paper, by how many carriage returns were printed before that. */
+    goToRow(returns) {
+        return this.#action(async () => {
+            this.#stops = false;
+            const after = returns === 0 ? 0 : await this.#placeOf(`rows ${returns}`, 0);
+            const number = after === null ? null : this.history.numberAt(after);
+            const before = number === null ? null : replies.paperOf(await this.#link.ask(`at ${number} paper`)).count;
+            const place = before === null ? null : await this.#placeOf(`printed ${before + 1}`, after);
+            if (place === null) this.notice = { kind: "noneBehind" };
+            else await this.#goTo(place - 1);
+            await this.#look();
+        });
+    }
+
+    /** The place after the first order between two places that meets a condition; null where none does, or it is stopped before. */
+    async #placeOf(condition, from, to = this.history.behind) {
+        for (const { place, number, orders } of this.history.runs) {
+            if (place >= from && place < to) this.#tellWay(to, place);
+            const most = Math.min(orders, to - place);
+            for (let [done, ran] = [Math.max(0, from - place), 1]; done < most && ran > 0 && !this.#stops; done += ran) {
+                const reply = await this.#link.ask(`at ${number + done} run ${most - done} until ${condition}`);
+                if (replies.isRefusal(reply)) return null;
+                ran = replies.runOf(reply).orders;
+                if (replies.metIn(reply)) return place + done + ran;
+            }
+        }
+        return null;
+    }
+
+    /**
+     * Brings the session to the beginning of an order, by the monitor's number of it, with the rules that there are. The last ones before
+     * it are told.
+     */
+    async #to(number, told) {
+        const rules = this.rules.map((rule) => rule.split(" ").slice(0, 2).join(" "));
+        await this.#bring(told === 0 ? number : this.history.numberAt(this.history.behind - told));
+        await this.#withoutRules();
+        Object.assign(this, { accounts: [], rows: [], assembled: null, loading: null });
+        if (told > 0) this.accounts = this.#accountsOf(replies.reportOf(await this.#ask(`json trace-data ${told}`)).told);
+        await this.#askAll(rules);
+        const script = await this.#transcript.script();
+        this.#budget.holds(script.length);
+        Object.assign(this, { performed: this.#count });
+        this.#said = replies.linesOf(script);
+        await this.#noteImage();
+    }
+
+    /** Has the session at the beginning of the order of this number, by the lines that lead there. */
+    async #bring(number) {
+        const line = `to ${number}`;
+        const reply = await this.#link.ask(line);
+        if (replies.isRefusal(reply)) throw new Held({ kind: "refusal", ...replies.refusalOf(reply), line });
+        await this.#transcript.cut();
+        this.#cache.forget();
+        this.#count = number;
+    }
+
+    /** What was loaded, and the labels, at a moment that was gone to. */
+    async #noteImage() {
+        const { source = null, kinds = new Map() } = this.history.image ?? {};
+        this.#image = this.history.image ?? this.#image;
+        Object.assign(this, { loaded: source, kinds, labels: await this.#queries.labels() });
     }
 
     /**
@@ -699,25 +904,60 @@ export class Controller extends EventTarget {
      */
     forward(orders, whenDone = () => {}) {
         return this.#work(async () => {
-            const isTold = orders <= TOLD_AT_ONCE;
             const registerBefore = this.history.next(1)?.line === undefined ? this.panel.register : null;
-            let missing = orders;
-            for (let action = this.history.next(missing); action !== null; action = this.history.next(missing)) {
-                const performed = await this.#again(action, isTold);
-                missing -= performed;
-                if (performed === 0 && action.line === undefined) break;
-            }
+            const { behind } = this.history;
+            this.#stops = false;
+            await this.#forwardTo(behind + orders);
             await this.#look();
-            if (orders === 1 && missing === 0) whenDone(Object.assign(this.accounts.at(-1), { registerBefore }));
-            return orders - missing;
+            const performed = this.history.behind - behind;
+            if (orders === 1 && performed === 1 && this.accounts.length > 0) {
+                whenDone(Object.assign(this.accounts.at(-1), { registerBefore }));
+            }
+            return performed;
         });
     }
 
+    /** Performs again what was undone up to a place, and what the operator did there; or as far as it is not stopped before. */
+    async #forwardTo(place) {
+        const isTold = place - this.history.behind <= TOLD_AT_ONCE;
+        const missing = () => Math.max(0, place - this.history.behind);
+        const next = () => this.history.next(Math.min(isTold ? Infinity : ON_THE_WAY, missing()));
+        for (let action = next(); action !== null && !this.#stops && this.notice === null; action = next()) {
+            const performed = await this.#again(action, isTold);
+            if (performed === 0 && action.line === undefined && action.lines === undefined) break;
+            if (!isTold) this.#tellWay(place);
+        }
+        if (this.history.behind > place) await this.#goTo(place);
+    }
+
+    /** Tells how far a long way is gone. */
+    #tellWay(of, at = this.history.behind) {
+        if (of - at < ON_THE_WAY && this.progress === null) return;
+        this.progress = { at, of };
+        this.dispatchEvent(new Event("change"));
+    }
+
     /** Performs an action again. A rule may end it early. */
-    async #again({ line, orders }, isTold) {
+    async #again(action, isTold) {
+        const { line, lines, orders } = action;
+        if (lines !== undefined) return this.#wholeAgain(action);
         if (line !== undefined) await this.#say(line, true);
         if (orders === 0) return 0;
         return isTold ? this.#tell(orders, true) : replies.ordersOf(await this.#say(`orders ${orders}`, true)).orders;
+    }
+
+    /** Lines that were done as one are done so again, from their beginning. */
+    async #wholeAgain({ lines, past = 0, first, last, image }) {
+        if (past > 0) {
+            this.history.back(past);
+            await this.#to(first, 0);
+        }
+        const before = this.#count;
+        this.#said.push(...lines);
+        await this.#askAll(lines);
+        this.history.whole({ lines, orders: await this.#counted() - before, first: before, last, image }, true);
+        Object.assign(this, { accounts: [], rows: [] });
+        if (image !== null) await this.#noteImage();
     }
 
     /**
@@ -775,6 +1015,7 @@ export class Controller extends EventTarget {
     /** Runs in portions. */
     async #portions(limit, isOperated = false) {
         const run = new Run(limit, this.printed.count, isOperated);
+        const [first, history, said] = [this.#count, this.history.copy, this.#said.length];
         this.#between = [];
         try {
             while (run.goesOn && !this.#stops) {
@@ -787,6 +1028,7 @@ export class Controller extends EventTarget {
         } finally {
             const left = this.#between;
             this.#between = null;
+            if (run.starts > 0) await this.#noteWhole(this.#said.slice(said), first, history, run.orders);
             for (const { lines, resolve } of left) this.command(...lines).then(resolve);
         }
         return run;
@@ -806,7 +1048,7 @@ export class Controller extends EventTarget {
         }
         const told = replies.runOf(reply);
         this.#noteOrders(told.orders);
-        if (!this.#isInScript) this.#hit = told.rule;
+        if (told.rule !== null) this.#noteHit(told.rule);
         run.noted(told, starts);
         if (this.#budget.isUsedUp || this.#budget.codesAtMost >= run.asksAt) await this.#lookAtPaper();
         return run.watched(this.#budget, this.printed.count);
@@ -882,7 +1124,7 @@ export class Controller extends EventTarget {
     async #assemble(source) {
         if (source.length > LIMITS.source) throw new Held({ kind: "sourceTooLong" });
         this.source = source;
-        const lines = ["source", ...linesIn(source).map((line) => (line === "." ? " ." : line)), "."];
+        const lines = linesOfSource(source);
         this.#said.push(...lines);
         this.#isTouched = true;
         for (const line of lines) this.#budget.sent(line);
@@ -921,11 +1163,17 @@ export class Controller extends EventTarget {
         });
     }
 
-    /** Is where another laboratory was, after all its lines: its script is open as far as it was done. */
-    restore({ lines, script }) {
+    /**
+     * Is where another laboratory was, after all its lines: its script is open as far as it was done. What was gone back over there is
+     * ahead.
+     */
+    restore({ lines, script, later = [] }) {
         return this.#act(async () => {
-            await this.#openScript("", lines, false);
+            await this.#openScript("", [lines, ...later].join("\n"), false);
+            await this.#scriptTo(linesIn(lines).length);
+            const { behind } = this.history;
             await this.#scriptTo(Infinity);
+            if (later.length > 0) await this.#goTo(behind);
             Object.assign(this, { script, comments: commentsIn(script?.lines ?? []) });
             await this.#look();
             this.notice = null;
@@ -994,9 +1242,56 @@ export class Controller extends EventTarget {
         });
     }
 
-    /** What the monitor says of the word at an address. */
+    /**
+     * What the monitor says of the word at an address; where no step that is kept has put it there, what it said after the one that has,
+     * and the place of that in the run, as far as the search is not stopped before.
+     */
     why(address) {
-        return this.#question(async () => replies.linesOf(await this.#link.ask(`why ${address}`)));
+        return this.#question(async () => {
+            this.#stops = false;
+            const place = await this.#originOf(address) === null ? await this.#placeOfChange(address) : null;
+            const number = place === null ? null : this.history.numberAt(place) ?? await this.#counted();
+            const asked = number === null ? "" : `at ${number} `;
+            return { lines: replies.linesOf(await this.#link.ask(`${asked}why ${address}`)), place };
+        });
+    }
+
+    /** What has put a word there, as far as steps are kept, now or as at a moment; null where that is not known. */
+    async #originOf(address, moment = "") {
+        return replies.originsOf(await this.#link.ask(`${moment}json why-data ${address}`)).get(address) ?? null;
+    }
+
+    /** The place after the last order, or the beginning of the run of orders after a hand, that put a word there; null where none has. */
+    async #placeOfChange(address) {
+        const { text } = replies.placesOf(await this.#link.ask(`words ${address} 1`))[0];
+        let hand = null;
+        for (const run of this.history.runs.reverse()) {
+            const place = hand === null ? await this.#lastIn(run, `${address} ${text}`) : null;
+            if (place !== null || this.#stops) return place;
+            const origin = await this.#originOf(address, `at ${run.number} `);
+            if (hand !== null && origin?.clock !== hand.clock) break;
+            if (origin !== null && origin.order === null) hand = { clock: origin.clock, place: run.place };
+        }
+        return hand?.place ?? null;
+    }
+
+    /** The last place in a run of orders after one that meets a condition: at first in ever longer parts, then in ever shorter ones. */
+    async #lastIn({ place, orders }, condition) {
+        const { behind } = this.history;
+        let [end, found] = [place + orders, null];
+        for (let size = KEPT; found === null && end > place && !this.#stops; size *= 4) {
+            const from = Math.max(place, end - size);
+            found = await this.#placeOf(condition, from, end);
+            if (found === null) end = from;
+            this.#tellWay(behind, behind - end);
+        }
+        while (found !== null && found < end && !this.#stops) {
+            const middle = found + Math.floor((end - found) / 2);
+            const next = await this.#placeOf(condition, middle, end);
+            if (next === null) end = middle;
+            else found = next;
+        }
+        return this.#stops ? null : found;
     }
 
     /** Asks what the last orders would have taken with a word at each sector. */

@@ -120,6 +120,14 @@ export class Works {
         for (const { id } of this.all().slice(WORKS)) this.forget(id);
     }
 
+    /** Keeps a work that is not at hand. */
+    keepBeside(work) {
+        const here = this.id;
+        this.id = this.#newId();
+        this.keep(work);
+        this.id = here;
+    }
+
     /** All works in which something was done or written, the newest first. */
     all() {
         return this.#keeper

@@ -68,8 +68,13 @@ const player = new Player();
 const still = matchMedia("(prefers-reduced-motion: reduce)");
 const sound = new Sound(() => new AudioContext());
 const clocks = { now: () => performance.now(), sleep: (milliseconds) => new Promise((resolve) => setTimeout(resolve, milliseconds)) };
-/** Ends a task of the browser, so that it can hear what was pressed. */
-const turn = () => new Promise((resolve) => setTimeout(resolve));
+const { port1: hears, port2: says } = new MessageChannel();
+hears.start();
+/** Ends a task of the browser, so that it can hear what was pressed. A timer would wait for four milliseconds, again and again. */
+const turn = () => new Promise((resolve) => {
+    hears.addEventListener("message", resolve, { once: true });
+    says.postMessage(null);
+});
 const inlined = (id) => document.getElementById(id).textContent;
 /** What the page has of the repository's examples, lessons and tasks, once it was unpacked. */
 let [examples, remarks, exampleSources, sheets, drawings, tasks, licences, exhibits] = [new Map(), {}, {}, {}, [], {}, "", new Map()];
@@ -150,7 +155,8 @@ async function use(name) {
     ({ laboratory, drive } = machine);
 }
 
-function progressOf({ orders, starts, milliseconds }) {
+function progressOf({ orders, starts, milliseconds, at, of }) {
+    if (of !== undefined) return texts.text("goingTo", { at: counted(at, texts.code), of: counted(of, texts.code) });
     if (starts > 0) return texts.text("startsAgain", { count: counted(starts, texts.code) });
     const speed = Math.round(orders / (milliseconds / 1000));
     return texts.text("running", { orders: counted(orders, texts.code), speed: counted(speed, texts.code) });
@@ -216,6 +222,7 @@ const workOf = (own) => ({
     door: door === "hall" ? "work" : door,
     title: titleOf(own, pupil, sources, texts),
     lines: own.lines.join("\n"),
+    later: own.openSource === null ? own.later : [],
     script: own.script,
     performed: own.performed,
     drafts: drafts.all,
@@ -743,7 +750,7 @@ function makeWork() {
     const source = makeSource(laboratory, texts, drafts, {
         runIt: runProgram, checker, told: () => show(), markNow, stop: () => drive.halt(), given: sourceBeside,
     });
-    const time = makeTime(laboratory, texts, showing);
+    const time = makeTime(laboratory, texts, showing, () => drive.halt());
     const turns = makeTurns(laboratory, texts, hasTurns, (isOpen) => { hasTurns = isOpen; });
     const made = {
         hall: makeHall(texts, goTo, drive),
@@ -765,7 +772,9 @@ function makeWork() {
         panel: makePanel(laboratory, texts),
         console: makeConsole(laboratory, texts),
         paper: makePaper(laboratory, texts, showing, restOfPaper),
-        sheet: makeSheet(laboratory, texts, pieces, { print: printPage, changed: show }),
+        sheet: makeSheet(laboratory, texts, pieces, {
+            print: printPage, changed: show, goToRow: (returns) => { drive.halt(); return laboratory.goToRow(returns); },
+        }),
         tape: makeTape(laboratory, texts, drafts, showing),
         keyboard: makeKeyboard(laboratory, texts, showing),
         pace: makePace(laboratory, texts, drive, {
@@ -787,7 +796,7 @@ function makeWork() {
         profile: makeProfile(laboratory, texts, drafts), turns,
     };
     const turning = turningOf();
-    made.turner = makeTurner(made.drum.box, texts, turning);
+    made.turner = makeTurner(made.drum.box, texts, turning, made.hall.byHand);
     made.carried = makeCarried(laboratory, texts, made.drum, turning, drafts, writeMoved, () => reveal(parts.costs?.node));
     made.costs.node.append(made.carried.node);
     parts = made;
@@ -954,6 +963,7 @@ function makeOthers() {
 }
 
 function makeExhibit() {
+    kioskViews.faster = null;
     if (exhibit instanceof Running) return makeRunningExhibit();
     const made = {
         drum: makeDrum(laboratory, texts, showing),
@@ -1179,6 +1189,7 @@ function onKey(event) {
         else if (number >= 1 && number <= 4 && !event.repeat) exhibit?.press(number);
         return;
     }
+    if (event.key === "Escape" && laboratory.progress?.of !== undefined) return drive.halt();
     if (placeNow().game !== null || parts.projector.onKey(event)) return;
     if (door === "work" && hasShortKeys && onWorkKey(event)) return;
     if (event.target.closest("input, .CodeMirror, select, dialog") || event.ctrlKey || event.altKey || event.metaKey) return;
@@ -1307,7 +1318,9 @@ const offer = (work) => makeOffer(work, texts, { open: openWork, forget: (id) =>
 
 /** Unpacks what the page has of the repository; lessons have their texts from their documents. */
 function openTexts() {
-    const { lessons, exhibits: files, ...kept } = JSON.parse(globalThis.unpackedText(inlined("texts")));
+    // the last text, after which what unpacks is given up
+    const [packed] = globalThis.packedTexts;
+    const { lessons, exhibits: files, ...kept } = JSON.parse(packed.replaceAll("\n", "\\n"));
     exhibits = new Map(Object.entries(files));
     ({ remarks, sources: exampleSources, sheets, drawings, tasks, licences } = kept);
     examples = new Map(Object.entries(kept.examples));
@@ -1316,6 +1329,9 @@ function openTexts() {
 
 async function begin() {
     await turn();
+    // the machines open beside what follows, and what goes wrong is told where they are used
+    const shown = isKiosk || door === "hall" ? ["shown"] : [];
+    for (const name of isKiosk ? shown : [...shown, "own"]) machineOf(name).catch(() => {});
     openTexts();
     await turn();
     if (!isKiosk) await openKept().then((work) => beginWith(work));
@@ -1331,6 +1347,10 @@ async function beginWith(work) {
     if (isKiosk) return beginExhibit();
     ({ laboratory: visitors } = await machineOf("own"));
     visitors.addEventListener("change", noteWork);
+    visitors.addEventListener("left", ({ lines }) => {
+        const work = workOf(visitors);
+        works.keepBeside({ ...work, title: texts.text("laterPart", work), lines: lines.join("\n"), later: [] });
+    });
     drafts.addEventListener("change", noteWork);
     const last = work === null ? works.all()[0] : undefined;
     isSettling = work !== null;

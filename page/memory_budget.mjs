@@ -12,6 +12,7 @@ import { commandIn } from "./lines.mjs";
 export const LIMITS = { lines: 3_000_000, codes: 1_000_000, last: 10_000, asksAfter: 20_000, told: 10_000, source: 1_500_000 };
 
 const PERFORMS = /^ *(?:json +)?(run|orders|operate|profile|trace|drum|optimum|profile-data|trace-data|optimum-data) +(\d+)(?: +\S+)? *$/;
+const ORDERS = /^ *orders +(\d{1,15}) *$/;
 const TELL_EACH = ["trace", "drum", "trace-data"];
 const RUN = /^ *run +(\d{1,15}) *$/;
 const GIVE_ROOM = ["new", "back", "last"];
@@ -83,6 +84,17 @@ export class MemoryBudget {
     longRunIn(line) {
         const orders = Number(RUN.exec(line)?.[1] ?? 0);
         return orders > this.orders ? orders : null;
+    }
+
+    /** The parts in which a line `orders` is done that names more than may be performed at once. Else none. */
+    partsOf(line, size) {
+        const left = this.mostIn(line) === null ? 0 : Number(ORDERS.exec(line)?.[1] ?? 0);
+        return Array.from({ length: Math.ceil(left / size) }, (unused, at) => `orders ${Math.min(size, left - at * size)}`);
+    }
+
+    /** The transcript has so many bytes now. */
+    holds(bytes) {
+        this.#lines = bytes;
     }
 
     /** A new module has been taken. */

@@ -2,6 +2,7 @@
 // base 64, after
 // their size. A page's way through a network compresses base 64 nearly to what it stands for.
 import { spawnSync } from "node:child_process";
+import { sorted, unsorted } from "./sorted.mjs";
 
 /** Bytes, packed as a text. */
 export function packed(bytes) {
@@ -14,3 +15,10 @@ export function packed(bytes) {
 
 /** A text, packed. */
 export const packedText = (text) => packed(new TextEncoder().encode(text));
+
+/** A module's bytes, sorted and packed. */
+export function packedModule(bytes) {
+    const rows = sorted(bytes);
+    if (Buffer.compare(unsorted(rows), bytes) !== 0) throw new Error("page/sorted.mjs lacks an order of the module: it would not come back");
+    return packed(rows);
+}

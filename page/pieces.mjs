@@ -11,18 +11,25 @@ const MOST = { pieces: 12, signs: 1_000_000 };
 
 const brokenRows = (line) => line.match(new RegExp(`.{1,${WIDEST}}`, "gu")) ?? [""];
 
-/** The rows of a paper: each its text, and whether it was typed. What was typed within a line stands in that. */
+/**
+ * The rows of a paper: each its text, whether it was typed, and how many carriage returns were printed before it. What was typed within a
+ * line stands in that.
+ */
 export function rowsOf(text, typed) {
-    const rows = [{ text: "", isTyped: false }];
+    const rows = [{ text: "", isTyped: false, returns: 0 }];
+    let returns = 0;
     for (const { printed, typed: keys, isLine } of piecesOf(text, typed)) {
-        if (keys !== undefined
-            && isLine) rows.splice(
-                rows.at(-1).text === "" ? -1 : rows.length, 1, { text: shownKeys(keys), isTyped: true }, { text: "", isTyped: false }
-            );
-        else {
+        const printedRow = (line) => ({ text: line, isTyped: false, returns });
+        if (keys !== undefined && isLine) {
+            const typedRow = { ...printedRow(shownKeys(keys)), isTyped: true };
+            rows.splice(rows.at(-1).text === "" ? -1 : rows.length, 1, typedRow, printedRow(""));
+        } else {
             const [first, ...others] = (printed ?? shownKeys(keys)).split("\n");
             rows.at(-1).text += first;
-            rows.push(...others.map((line) => ({ text: line, isTyped: false })));
+            for (const line of others) {
+                returns += 1;
+                rows.push(printedRow(line));
+            }
         }
     }
     if (rows.at(-1).text === "") rows.pop();

@@ -101,6 +101,7 @@ export class Running extends EventTarget {
         this.#settings = { home: null, language: () => {}, chance: (below) => Math.floor(Math.random() * below), ...settings };
         let kept;
         this.pieces = new Pieces({ of: () => kept, keep: (text) => { kept = text; } });
+        laboratory.questionsToo = [];
         laboratory.addEventListener("change", this.#hears);
     }
 
@@ -245,6 +246,8 @@ export class Running extends EventTarget {
         Object.assign(this, { scene, bet, told: null, bits: null, passedOver: 0, isBusy: true, isTorn: false });
         [this.#isOpening, this.#isHurried] = [true, false];
         [this.#waiting, this.#telling] = [[], null];
+        // what another program was asked says nothing of this one
+        if (program !== undefined) this.#laboratory.questionsToo = [];
         this.#change();
         this.#opened = this.#do(async () => {
             await this.#laboratory.settled();

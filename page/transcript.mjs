@@ -15,6 +15,12 @@ export class Transcript {
         this.#asides = [];
     }
 
+    /** The monitor's lines were cut off at their end. */
+    async cut() {
+        const { length } = await this.#lines();
+        this.#asides = this.#asides.filter(([, end]) => end <= length);
+    }
+
     /** The script. */
     async script() {
         const written = await this.#link.ask("transcript");

@@ -130,10 +130,13 @@ function copyIn(coded, state, near) {
     };
 }
 
-/** Reads all bytes. A state says which kinds came before: below 7 the last one was a byte of its own. */
-function read(coded, bytes) {
-    let [at, state, near] = [0, 0, [0, 0, 0, 0]];
-    while (at < bytes.length) {
+/**
+ * Reads bytes up to a place, or some more, and says where it goes on from. A state says which kinds came before: below 7 the last one was a
+ * byte of its own.
+ */
+function read(coded, bytes, from, until) {
+    let { at, state, near } = from;
+    while (at < until) {
         if (coded.bit(IS_COPY + state) === 0) {
             bytes[at] = coded.byte(at === 0 ? 0 : bytes[at - 1], state < 7 ? -1 : bytes[at - near[0] - 1]);
             at += 1;
@@ -144,17 +147,44 @@ function read(coded, bytes) {
         ({ near, after: state } = copy);
         for (const end = at + copy.length; at < end; at += 1) bytes[at] = bytes[at - near[0] - 1];
     }
-    return bytes;
+    return { at, state, near };
 }
 
-/** The bytes that were packed as a text. */
-export function unpacked(text) {
+const START = { at: 0, state: 0, near: [0, 0, 0, 0] };
+
+/** What was packed as a text: the code, and room for its bytes. */
+function opened(text) {
     const [size, base64] = text.split(" ");
     const signs = atob(base64);
     const bytes = new Uint8Array(signs.length);
     for (let at = 0; at < bytes.length; at += 1) bytes[at] = signs.charCodeAt(at);
-    return read(new Coded(bytes), new Uint8Array(Number(size)));
+    return { coded: new Coded(bytes), bytes: new Uint8Array(Number(size)) };
+}
+
+/** The bytes that were packed as a text. */
+export function unpacked(text) {
+    const { coded, bytes } = opened(text);
+    read(coded, bytes, START, bytes.length);
+    return bytes;
 }
 
 /** The text that was packed. */
 export const unpackedText = (text) => new TextDecoder().decode(unpacked(text));
+
+/** The texts that were packed as one, with a zero between two; each is unpacked when it is asked for, and a little of what follows. */
+export function* unpackedTexts(text) {
+    const { coded, bytes } = opened(text);
+    let [begun, from] = [0, START];
+    while (begun <= bytes.length) {
+        let [seen, end] = [begun, -1];
+        for (;;) {
+            end = bytes.subarray(0, from.at).indexOf(0, seen);
+            if (end >= 0 || from.at >= bytes.length) break;
+            seen = Math.max(seen, from.at);
+            from = read(coded, bytes, from, Math.min(from.at + 4096, bytes.length));
+        }
+        if (end < 0) end = bytes.length;
+        yield new TextDecoder().decode(bytes.subarray(begun, end));
+        begun = end + 1;
+    }
+}

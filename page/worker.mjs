@@ -1,15 +1,15 @@
-// The Worker that holds the session. The first message brings the module's bytes, packed as a text; each later one is some lines, and is
-// answered by
-// their replies, one after the other, or by why there are none. A message `anew` ends the session and opens another one. Before this script
-// stands
-// shared.mjs, which unpacks.
+// The Worker that holds the session. The first message brings the module's bytes, sorted and packed as a text; each later one is some
+// lines, and is answered by their replies, one after the other, or by why there are none. A message `anew` ends the session and opens
+// another one.
+// Before this script stands shared.mjs, which unpacks.
 import { NoMemory, Session, compiled } from "../libraries/javascript/session.mjs";
+import { unsorted } from "./sorted.mjs";
 
 let code;
 let session;
 
 function answered({ module, anew, lines }) {
-    if (module !== undefined) code = compiled(self.unpacked(module));
+    if (module !== undefined) code = compiled(unsorted(self.unpacked(module)));
     if (module !== undefined || anew) {
         session = new Session(code);
         return { reply: "" };

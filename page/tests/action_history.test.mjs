@@ -41,11 +41,53 @@ test("an action that is new leaves nothing ahead", () => {
     assert.deepEqual([history.behind, history.ahead], [3, 0]);
 });
 
-test("what is no longer kept is forgotten", () => {
+test("each place has the monitor's number of its order, which counts those that were performed again as well", () => {
     const history = new ActionHistory();
-    history.orders(5000);
-    history.keep(4096);
-    assert.deepEqual([history.behind, history.forgotten], [4096, 904]);
+    history.orders(5000, false, 0);
+    history.line("press bp4 down");
+    history.orders(10, false, 5012);
+    assert.deepEqual([0, 4999, 5000, 5009, 5010].map((place) => history.numberAt(place)), [0, 4999, 5012, 5021, null]);
+    assert.deepEqual([history.behind, history.unbroken], [5010, 10]);
+    assert.deepEqual(history.runs, [{ place: 0, number: 0, orders: 5000 }, { place: 5000, number: 5012, orders: 10 }]);
+    history.back(12);
+    assert.deepEqual(history.later, ["orders 2", "press bp4 down", "orders 10"]);
+});
+
+test("lines that were done as one are so again, but for the orders of their last run", () => {
+    const history = new ActionHistory();
+    history.whole({ lines: ["operate 9"], orders: 8, first: 3, last: 2 });
+    history.back(1);
+    assert.deepEqual([history.unbroken, history.next(9)], [1, { orders: 1 }]);
+    history.back(4);
+    const next = history.next(9);
+    assert.deepEqual([next.lines, next.past, history.behind, history.numberAt(2)], [["operate 9"], 3, 3, 5]);
+    history.back(3);
+    history.whole({ ...history.next(9), orders: 8, first: 20 }, true);
+    assert.deepEqual([history.behind, history.ahead, history.numberAt(0)], [8, 0, 20]);
+});
+
+test("marks are thinned, go with what is left, and know the last row", () => {
+    const history = new ActionHistory();
+    history.orders(1000);
+    for (let place = 1; place <= 800; place += 1) history.mark("row", place, place);
+    history.mark("stop", 900);
+    history.mark("stop", 900);
+    assert.ok(history.marks.length <= 300 && history.marks.length > 100, `${history.marks.length}`);
+    assert.deepEqual([history.lastRow.rows, history.marks.filter(({ kind }) => kind === "stop").length], [800, 1]);
+    history.back(500);
+    assert.equal(history.lastRow.rows, 800);
+    history.line("press start");
+    assert.ok(history.lastRow.rows > 490 && history.lastRow.rows <= 500);
+});
+
+test("what is ahead is left where something else is done", () => {
+    const history = new ActionHistory();
+    history.orders(5);
+    history.back(3);
+    history.orders(1, true);
+    assert.equal(history.left, 0);
+    history.line("press bp4 down");
+    assert.deepEqual([history.left, history.ahead], [1, 0]);
 });
 
 test("the tape is that of the last mounting that counts", () => {

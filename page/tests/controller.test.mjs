@@ -98,7 +98,9 @@ live("further back than steps are kept", async (laboratory) => {
     await laboratory.run(6000);
     assert.equal(laboratory.history.behind, 6000);
     await laboratory.back(6000);
-    assert.deepEqual([laboratory.history.behind, laboratory.history.ahead, laboratory.notice.kind], [0, 4096, "TooFar"]);
+    assert.deepEqual(
+        [laboratory.history.behind, laboratory.history.ahead, laboratory.notice, laboratory.panel.clock], [0, 6000, null, 0n]
+    );
 });
 
 live("a run in portions ends where the machine rests", async (laboratory) => {
@@ -326,7 +328,7 @@ live("a laboratory is restored by its lines, a source that is open and a half-do
 live("a line that could print or tell more than memory holds is not begun", async (laboratory) => {
     await laboratory.say("put 0000 p =h", "put 0001 u 0000", "press start");
     for (const [line, most] of [
-        ["orders 2000000", LIMITS.codes], ["profile 1000001", LIMITS.codes], ["trace 20000", LIMITS.told], [" drum  20000 ", LIMITS.told],
+        ["profile 1000001", LIMITS.codes], ["trace 20000", LIMITS.told], [" drum  20000 ", LIMITS.told],
         ["json trace-data 10001", LIMITS.told], ["profile-data 1000001", LIMITS.codes],
     ]) {
         await laboratory.say(line);
@@ -485,10 +487,10 @@ live("what a row says of its word is what why says", async (laboratory) => {
     assert.deepEqual(laboratory.writerOf("0009"), { order: "y 0009", at: "0005", clock: 181n, lost: "a 0000" });
     await laboratory.run(12);
     assert.ok(laboratory.writerOf("0009").clock > 181n);
-    assert.match((await laboratory.why("0009"))[0], new RegExp(`put there by y 0009 at 0013, clock ${laboratory.writerOf("0009").clock},`));
+    assert.match((await laboratory.why("0009")).lines[0], new RegExp(`put there by y 0009 at 0013, clock ${laboratory.writerOf("0009").clock},`));
     await laboratory.say("press manual", "put 0009 a 0000");
     assert.equal(laboratory.writerOf("0009"), null);
-    assert.match((await laboratory.why("0009"))[0], /put there by hand/);
+    assert.match((await laboratory.why("0009")).lines[0], /put there by hand/);
 });
 
 live("an order that stores the word that is there has not changed it", async (laboratory) => {
@@ -641,7 +643,7 @@ live("the last orders of a run are told after it, where that is wanted, and noth
     assert.equal((await laboratory.transcript()).replace(/^run \d+\n/gm, ""), `${before}break 0009\nbreak 0012\ndrop 0\ndrop 0\n`);
 });
 
-live("of a run that cannot be gone back over nothing is told", async (laboratory) => {
+live("after runs with a press of Start between them the orders of the last one are told", async (laboratory) => {
     laboratory.wantsLast = true;
     await laboratory.say("put 0000 p =h", "put 0001 z", "put 0002 p =i", "put 0003 z", "press start");
     await laboratory.operate();

@@ -1,15 +1,14 @@
 // Visitors at the kiosk, without a browser: they press at random, walk away and come back, and the paper is always a beginning of what its
 // program prints. No time passes but that of the test's own clock.
 // TOUCHES says how many touches each example gets; the one that the kiosk shows and the game get 1,000 at least. PART says which examples
-// are visited: 2/3 is the second of three parts of them.
+// are visited.
 import assert from "node:assert/strict";
 import { test } from "node:test";
 import { KIOSK } from "../exhibit.mjs";
 import { KIOSK_GAMES } from "../views/kiosk_game.mjs";
-import { chance, checkOf, examples, exhibited, printedBy, skip, tick } from "./exhibited.mjs";
+import { chance, checkOf, examples, examplesOfPart, exhibited, printedBy, skip, tick } from "./exhibited.mjs";
 
 const TOUCHES = Number(process.env.TOUCHES ?? 40);
-const [part, parts] = (process.env.PART ?? "1/1").split("/").map(Number);
 /** The buttons as visitors press them: the second one, with which a story goes on, more often than the others. */
 const PRESSED = [1, 1, 2, 2, 2, 2, 2, 2, 2, 3, 3, 4];
 const STATES = ["attract", "story", "show", "end", "matches"];
@@ -46,7 +45,7 @@ async function visited(name, touches) {
 
 const isLong = (name) => name === KIOSK.example || KIOSK_GAMES.has(name);
 
-for (const name of examples.filter((unused, place) => place % parts === part - 1)) {
+for (const name of examplesOfPart) {
     test(`${name}: whatever is pressed at the kiosk, the paper is a beginning of the right text`, { skip }, async () => {
         const seen = await visited(name, isLong(name) ? Math.max(TOUCHES, 1000) : TOUCHES);
         if (name === KIOSK.example) assert.deepEqual([...seen].sort(), [...STATES].sort());

@@ -19,6 +19,9 @@ export const examples = readdirSync(join(top, "examples"), { recursive: true })
     .filter((name) => name.endsWith(".txt"))
     .map((name) => name.slice(0, -".txt".length))
     .sort();
+const [part, parts] = (process.env.PART ?? "1/1").split("/").map(Number);
+/** Those of the part that PART names: 2/3 is the second of three parts of them. */
+export const examplesOfPart = examples.filter((unused, place) => place % parts === part - 1);
 const scriptOf = (name) => (examples.includes(name) ? readFileSync(join(top, `examples/${name}.txt`), "utf8") : undefined);
 
 /** A moment, in which others go on. */

@@ -47,6 +47,7 @@ const answers = {
         { place: "0001", times: 73 },
         { ran: "3 rest" }
     ),
+    at: () => "? 1 Form\n",
     ".": () => "? 9 Faults\nline 2 UnknownName\n         b none\n           ^^^^\n",
 };
 

@@ -75,9 +75,6 @@ test("what was typed is gone after a way back, there again after the way on, and
     history.orders(1, true);
     history.line("type 12'", true, 4);
     assert.deepEqual(history.typed, typed);
-    history.orders(5);
-    history.keep(5);
-    assert.deepEqual(history.typed, typed);
     history.clear();
     assert.deepEqual(history.typed, typed);
     history.begin();

@@ -56,6 +56,27 @@ test("each step has its text and a hint, and each story its captions, in each la
     }
 });
 
+/** What tells a reader to type, in each language. */
+const TYPING = { en: /\b(re)?typ(e|es|ing)\b/i, de: /\b(ab)?tipp(e|en|t)\b/i };
+
+test("a step or a hint that tells to type, or has a line of the monitor, has a box for lines, in each language", { skip }, async () => {
+    const laboratory = new Controller(new ModuleLink(module));
+    await laboratory.open();
+    const commands = new Set((await laboratory.say("commands")).trim().split("\n").map((line) => line.split(" ")[0]));
+    assert.ok(commands.has("put") && commands.has("drop"));
+    const isLine = (piece) => /^\w+ .*\d|^new$/.test(piece) && commands.has(piece.split(" ")[0]);
+    let asked = 0;
+    for (const [code, typing] of Object.entries(TYPING)) for (const { name, steps } of LESSONS) {
+        for (const [place, { text, hint }] of lessons[code][name].steps.entries()) {
+            const lines = `${text} ${hint}`.split("`").filter((piece, at) => at % 2 === 1 && isLine(piece));
+            const isAsked = typing.test(text) || typing.test(hint) || lines.length > 0;
+            asked += isAsked ? 1 : 0;
+            assert.ok(!isAsked || steps[place].types === true, `step ${place + 1} of ${name} in ${code}: ${text}`);
+        }
+    }
+    assert.ok(asked >= 30, `${asked}`);
+});
+
 test("each part of a lesson begins with a machine that is set up for it, and no step sets it up anew before the pupil has answered", () => {
     for (const { name, steps } of LESSONS) {
         const written = lessons.en[name].steps;

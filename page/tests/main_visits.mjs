@@ -11,7 +11,7 @@ export const MAIN_VISITS = [
     ["what a browser keeps", ["undo", "tenWorks", "newAfterReload", "languageKept", "taskSources", "kioskKeepsNothing"]],
     ["keys and the focus", ["byKeys", "focusStays", "oneStopEach", "projectorKeys", "card", "paceRow", "cursorAndEscape", "pulledUp"]],
     ["writing and pasting", ["writing", "editing", "pasting"]],
-    ["mouse and finger", ["touch", "carried", "turnedByDrag", "drumMap"]],
+    ["mouse and finger", ["touch", "carried", "turnedByDrag", "drumMap", "dragged"]],
     ["the kiosk", ["kiosk", "kioskSeen", "kioskLetters", "kioskReturns", "fasterKiosk", "game"]],
     [
         "exhibits that run a program, each to its end",

@@ -30,7 +30,7 @@ async function after(...lines) {
     return laboratory;
 }
 
-test("operate counts as a run where it has not pressed Start; else the orders of its last run can be gone back over, and no others", async () => {
+test("operate counts as a run where it has not pressed Start; else, where none tells the orders before that, those after it can be gone back over", async () => {
     for (const [line, behind] of [["operate 1", 8], ["operate 100", 2]]) {
         const { history, notice } = await after("run 7", "press start", line);
         assert.deepEqual([history.behind, notice], [behind, null], line);
@@ -56,15 +56,20 @@ test("operate may perform as many runs as its orders, and one more: what memory 
     );
 });
 
-test("operate by the module: the order of its last run is gone back over, and performed again", { skip: !existsSync(module) }, async () => {
+test("operate by the module: each of its orders is gone back over, and performed again", { skip: !existsSync(module) }, async () => {
     const laboratory = new Controller(new ModuleLink(module));
     await laboratory.open();
     await laboratory.say("put 0000 p =h", "put 0001 z", "put 0002 p =i", "put 0003 z", "put 0004 z", "press start", "operate 100");
-    assert.deepEqual([laboratory.printed.text, laboratory.history.behind, laboratory.panel.counter], ["hi", 1, "0005"]);
-    await laboratory.back(1);
-    assert.deepEqual([laboratory.history.ahead, laboratory.panel.counter], [1, "0004"]);
-    await laboratory.forward(1);
-    assert.deepEqual([laboratory.history.behind, laboratory.panel.counter], [1, "0005"]);
+    assert.deepEqual([laboratory.printed.text, laboratory.history.behind, laboratory.panel.counter], ["hi", 5, "0005"]);
+    for (const [orders, counter] of [[1, "0004"], [2, "0003"], [4, "0001"], [5, "0000"]]) {
+        await laboratory.back(orders);
+        assert.deepEqual([laboratory.history.ahead, laboratory.panel.counter], [orders, counter]);
+        await laboratory.forward(orders);
+        assert.deepEqual([laboratory.history.behind, laboratory.panel.counter, laboratory.printed.text], [5, "0005", "hi"]);
+    }
+    await laboratory.goTo(1);
+    await laboratory.goTo(3);
+    assert.deepEqual([laboratory.history.behind, laboratory.history.ahead, laboratory.panel.counter], [3, 2, "0003"]);
 });
 
 /** A laboratory over the module that has answered some lines, and its link. */

@@ -3,18 +3,23 @@ import assert from "node:assert/strict";
 import { test } from "node:test";
 import { Pieces, copyOf, differing, inView, rowsOf, sideBySide, typedAgain } from "../pieces.mjs";
 
+const shown = (rows) => rows.map(({ text, isTyped }) => ({ text, isTyped }));
 const printed = (...texts) => texts.map((text) => ({ text, isTyped: false }));
 
 test("a paper is rows, what was typed at the beginning of a line has one of its own, and a long line goes on in the next row", () => {
     assert.deepEqual(rowsOf("", []), []);
-    assert.deepEqual(rowsOf("12\n30\n", []), printed("12", "30"));
+    assert.deepEqual(shown(rowsOf("12\n30\n", [])), printed("12", "30"));
     assert.deepEqual(
-        rowsOf("12\n30", [{ at: 3, keys: "1000 '" }, { at: 3, keys: "-0059'" }]),
+        shown(rowsOf("12\n30", [{ at: 3, keys: "1000 '" }, { at: 3, keys: "-0059'" }])),
         [...printed("12"), { text: "1000  -0059", isTyped: true }, ...printed("30")]
     );
-    assert.deepEqual(rowsOf("you take 2\n", [{ at: 9, keys: "2'" }]), printed("you take 22"));
-    assert.deepEqual(rowsOf("", [{ at: 0, keys: "7'" }]), [{ text: "7", isTyped: true }]);
+    assert.deepEqual(shown(rowsOf("you take 2\n", [{ at: 9, keys: "2'" }])), printed("you take 22"));
+    assert.deepEqual(shown(rowsOf("", [{ at: 0, keys: "7'" }])), [{ text: "7", isTyped: true }]);
     assert.deepEqual(rowsOf("x".repeat(250), []).map(({ text }) => text.length), [100, 100, 50]);
+    assert.deepEqual(
+        rowsOf(`${"x".repeat(101)}\n30\n31`, [{ at: 102, keys: "7'" }]).map(({ text, returns }) => [text.length, returns]),
+        [[100, 0], [1, 0], [1, 1], [2, 1], [2, 2]]
+    );
     assert.equal(copyOf([{ text: "7", isTyped: true }, ...printed("12")], "typed"), "‹typed› 7\n12\n");
 });
 

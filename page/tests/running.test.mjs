@@ -110,7 +110,7 @@ test("row 1000 typed again, as it is printed: both runs are those of the example
     const [piece] = running.pieces.all.pieces;
     assert.deepEqual(
         [rowsOf(piece.text, []).at(-1).text.slice(0, 4), rowsOf(running.paper.text, running.paper.typed)[0]],
-        ["1725", { text: "1000  -0059  -0058  0240", isTyped: true }]
+        ["1725", { text: "1000  -0059  -0058  0240", isTyped: true, returns: 0 }]
     );
     assert.equal(`${piece.text}${running.paper.text}`, laboratory.printed.text);
     assertRows(told, 4);
@@ -317,6 +317,17 @@ for (const name of Object.keys(exhibits)) {
         await laboratory.settled();
     });
 }
+
+test("what stands beside the paper is never read from what another exhibit has asked", { skip }, async () => {
+    const { laboratory, drive, running } = await after("formula", 1);
+    running.leave();
+    const other = new Running(laboratory, drive, exhibits.loop, { ...settings, isStill: () => false, ...fastClocks() });
+    const seen = [];
+    laboratory.addEventListener("change", () => { if (other.beside?.bits !== undefined) seen.push(...laboratory.answers); });
+    await other.press(1);
+    assert.deepEqual([seen.filter((answer) => !/^\d{4} [0-9fgjkqw]{8}\n$/.test(answer)), seen.length > 0], [[], true]);
+    other.leave();
+});
 
 test("a new exhibit of the same machine begins with its own paper", { skip }, async () => {
     const { laboratory, drive, running } = await after("twenty-one", 1);

@@ -1,6 +1,11 @@
 // What of a page is not seen as it should be, as it stands in its window. Each function gives the troubles found as lines of text, none
 // where all is well.
 
+/** An expression in the page: what the style draws at nodes, which is no text. */
+export const drawnAt = (selector) => (
+    `[...document.querySelectorAll(${JSON.stringify(selector)})].filter((it) => it.checkVisibility()).map((it) => [it, ...it.querySelectorAll("*")].map(({ dataset }) => dataset.shown ?? "").join(""))`
+);
+
 /** Lists, texts and editors, in which what is beyond their edge is scrolled to. */
 const LISTS =
     ".scroll, .with-arrows, .steps, .script-lines, .log, .transcript, .rows, .torn, .task-text, .task-answer, .explanation-text, .paper, .piece-rows, .reply, .lines-of-step pre, .notice, .tells, .editor, .CodeMirror-hints, .card, .tab-panel, .tales > .line, .unseen, .told, .map-answer, .why, .rules, .costs-told";

@@ -12,25 +12,29 @@ const file = (path) => new URL(`../../${path}`, import.meta.url).pathname;
 const module = file("libraries/javascript/lgp_c_region.wasm");
 const skip = !existsSync(module);
 
-/** The orders that each caption of a story plays. */
-async function playedIn({ example, before, plays }) {
+/** The orders that each caption of a story plays, and what is there before them. */
+async function playedIn({ example, before, plays, asks, back = [] }) {
     const laboratory = new Controller(new ModuleLink(module));
     await laboratory.open();
     await laboratory.openForShow(example, readFileSync(file(`examples/${example}.txt`), "utf8"));
     await laboratory.command("press start");
     if (before > 0) await laboratory.step(before);
     const played = [];
-    for (const orders of plays) {
+    for (const [at, orders] of plays.entries()) {
+        const { text } = laboratory.printed;
+        const there = { text, counter: laboratory.panel.counter, words: new Map(laboratory.words.map((word) => [word.address, word])) };
+        const { lines: [why] } = asks === undefined ? { lines: [] } : await laboratory.why(asks[1]);
         if (orders > 0) await laboratory.step(orders);
-        played.push(orders === 0 ? [] : laboratory.accounts.slice(-orders));
+        played.push(Object.assign(orders > 0 ? laboratory.accounts.slice(-orders) : [], { there, why }));
+        if (back[at] > 0) await laboratory.back(back[at]);
     }
     return played;
 }
 
 const played = skip ? new Map() : new Map(await Promise.all(TALES.map(async (tale) => [tale.name, await playedIn(tale)])));
 
-/** The addresses that a caption names; 1956 is a year. */
-const namedIn = (caption) => (caption.match(/\b\d{4}\b/g) ?? []).filter((number) => number !== "1956");
+/** The addresses that a caption names; 1956 is a year, and what is in an order p is a code. */
+const namedIn = (caption) => (caption.replace(/\bp \d{4}/g, "").match(/\b\d{4}\b/g) ?? []).filter((number) => number !== "1956");
 
 test("each address that a caption names is the place or the word of an order that it plays, in each language", { skip }, () => {
     let named = 0;
@@ -63,4 +67,24 @@ test("what the captions say of waits, of six turns and of a word that is rewritt
     const again = changes.stored.address;
     const isOrder = played.get("type").flat().some(({ at }) => at === again);
     assert.ok(isOrder && again !== last("type", 2).stored.address, "another of its own orders");
+});
+
+test("the story that goes back tells what is there at each of its moments", { skip }, () => {
+    const [row, typed, made, puts, after] = played.get("rewind");
+    const orderAt = ({ there }, address) => there.words.get(address).order;
+    assert.equal(row.there.text, "1\n2\n2\n2\n");
+    assert.deepEqual([typed.there.text, typed.there.counter, orderAt(typed, "0000")], ["1\n2\n", "0000", "p 1001"]);
+    assert.deepEqual([made.there.counter, orderAt(made, "0003"), made.there.words.get("0012").digits], ["0003", "a 0012", "00000004"]);
+    assert.match(made.why, /put there by h 0012 at 0007/);
+    const [{ at, order, stored }] = puts;
+    assert.deepEqual([at, order, stored.before.digits, stored.after.digits], ["0007", "h 0012", "00000400", "00000004"]);
+    assert.equal(after.there.words.get("0012").origin.at, "0007");
+    for (const [code, seven] of [["en", /Seven orders before it/], ["de", /Sieben Befehle vor ihm/]]) {
+        const { captions } = textsIn(code).table.tales.rewind;
+        assert.match(captions[2], seven);
+        const named = [[0, "2"], [1, "p 1001"], [2, "a 0012"], [2, "00000400"], [3, "h"]];
+        for (const [caption, word] of named) assert.ok(captions[caption].includes(word), `${code}: ${word}`);
+    }
+    const { plays, back } = TALES.at(-1);
+    assert.equal(back[1] - plays[1], 7);
 });

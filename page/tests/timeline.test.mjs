@@ -40,7 +40,6 @@ test("what was not told has a third of the line at most, where something was tol
 });
 
 test("the orders that were not told are counted as far as they can be", () => {
-    assert.equal(untoldOf({ history: { behind: 42, forgotten: 0 } }, 12), 30);
-    assert.equal(untoldOf({ history: { behind: 100, forgotten: 900 } }, 12), 988);
-    assert.equal(untoldOf({ history: { behind: 0, forgotten: 0 } }, 3), 0);
+    assert.equal(untoldOf({ history: { behind: 42 } }, 12), 30);
+    assert.equal(untoldOf({ history: { behind: 0 } }, 3), 0);
 });

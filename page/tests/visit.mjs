@@ -19,14 +19,15 @@ import { fileURLToPath, pathToFileURL } from "node:url";
 import { WORD_TIME } from "../drive.mjs";
 import { withoutQuestions } from "../lines.mjs";
 import { bitsOf } from "../../libraries/javascript/replies.mjs";
-import { packed, packedText } from "../packed.mjs";
+import { packedModule, packedText } from "../packed.mjs";
 import { unpackedText } from "../unpacked.mjs";
 import { disorder, faint, losesFocus, nameless, noteMouse, unreached } from "./access.mjs";
 import { Chromium } from "./chromium.mjs";
 import { Firefox } from "./firefox.mjs";
 import { wantedVisits } from "./main_visits.mjs";
 import { withoutReasons } from "./replies.mjs";
-import { hiddenTexts, unhit } from "./seen.mjs";
+import { drawnAt, hiddenTexts, unhit } from "./seen.mjs";
+import { visitsOfDay } from "./visits_day.mjs";
 import { visitsOfEditor } from "./visits_editor.mjs";
 import { visitsOfExamples } from "./visits_examples.mjs";
 import { visitsOfExhibits } from "./visits_exhibits.mjs";
@@ -40,11 +41,13 @@ import { visitsOfPaper } from "./visits_paper.mjs";
 import { visitsOfPeople } from "./visits_people.mjs";
 import { visitsOfPoints } from "./visits_points.mjs";
 import { visitsOfRows } from "./visits_rows.mjs";
+import { visitsOfScenes } from "./visits_scenes.mjs";
 import { visitsOfStorage } from "./visits_storage.mjs";
 import { visitsOfSending } from "./visits_sending.mjs";
 import { visitsOfSure } from "./visits_sure.mjs";
 import { visitsOfTasks } from "./visits_tasks.mjs";
 import { visitsOfProjector } from "./visits_projector.mjs";
+import { visitsOfTimeline } from "./visits_timeline.mjs";
 import { visitsOfWishes } from "./visits_wishes.mjs";
 import { visitsOfWorkbench } from "./visits_workbench.mjs";
 import { WebKit } from "./webkit.mjs";
@@ -910,7 +913,7 @@ async function source(browser) {
     await told(/^Line 2: tow – no line has that label; perhaps two\.$/);
     assert.deepEqual(
         await browser.value(
-            "['.fault .CodeMirror-linenumber', '.wave', '.place'].map((it) => [...document.querySelectorAll('.source ' + it)].map((node) => node.textContent))"
+            `[${drawnAt(".source .fault .CodeMirror-linenumber")}, [document.querySelector('.source .wave').textContent], ${drawnAt(".source .place")}]`
         ),
         [["2"], ["tow"], ["0000 00010010", "0002 000j0018", "0003 00000000", "0004 00000002", "0005 00000004", "0006 00000000"]]
     );
@@ -919,7 +922,7 @@ async function source(browser) {
     await write(faulty.replace("tow", "two"));
     await told(/^No fault: 7 words, starts at 0000\.$/);
     assert.deepEqual(
-        await browser.value("[...document.querySelectorAll('.source .place')].map((node) => node.textContent)"),
+        await browser.value(drawnAt(".source .place")),
         ["0000 00010010", "0001 000q0014", "0002 000j0018", "0003 00000000", "0004 00000002", "0005 00000004", "0006 00000000"]
     );
     await press(browser, "#load");
@@ -1533,7 +1536,9 @@ async function cannotOpen() {
         assert.match(await changed("<script>\n(()=>{", "<script>\n65536nn;(()=>{"), /SyntaxError|Script error/);
         assert.match(await rewritten("\0", "\0 65536nn;"), /SyntaxError|Script error/);
         assert.match(
-            await changed(packed(readFileSync(join(top, "libraries/javascript/lgp_c_region.wasm"))), packed(Buffer.from("no module"))),
+            await changed(
+                packedModule(readFileSync(join(top, "libraries/javascript/lgp_c_region.wasm"))), packedModule(Buffer.from("no module"))
+            ),
             /^these bytes are not a module that can be used here: /
         );
         assert.match(await rewritten(`=${2 ** 26}){`, `=${2 ** 40}){`), /^there is not enough memory/);
@@ -1637,9 +1642,12 @@ const all = {
     ...visitsOfSure(address),
     ...visitsOfPeople(address),
     ...visitsOfProjector(address),
+    ...visitsOfTimeline(address),
     ...visitsOfWishes(address),
     ...visitsOfPoints(address),
     ...visitsOfEditor(address),
+    ...visitsOfScenes(address),
+    ...visitsOfDay(address),
     ...visitsOfRows(address),
     ...visitsOfWorkbench(address),
     kiosk,

@@ -1,6 +1,7 @@
 // Visits of people who write a source: what they type is coloured, completed and said to be right or wrong at once, by keys alone; and
 // however long it is, the page hears each key.
 import assert from "node:assert/strict";
+import { drawnAt } from "./seen.mjs";
 
 const settled = (browser) => browser.value("laboratoryOfPage().settled()");
 const pause = (milliseconds) => new Promise((resolve) => { setTimeout(resolve, milliseconds); });
@@ -14,6 +15,7 @@ const focusEditor = (browser) => browser.value(`void ${EDITOR}.focus()`);
 const seen = (browser, selector) => browser.value(
     `[...document.querySelectorAll(${JSON.stringify(selector)})].filter((it) => it.checkVisibility()).map((it) => it.textContent)`
 );
+const besides = (browser, selector) => browser.value(drawnAt(selector));
 const isFocused = (browser) => browser.value("document.activeElement?.closest('.source .CodeMirror') != null");
 
 /** Long tasks are noted from here on; gives the call that ends that. */
@@ -50,7 +52,7 @@ async function writing(browser, address) {
     await browser.strike("Enter");
     await browser.type("word 00000004");
     await toldIs(browser, /^No fault: 3 words, starts at 0000\.$/);
-    assert.deepEqual(await seen(browser, ".source .place"), ["0000 00010008", "0001 00000000", "0002 00000004"]);
+    assert.deepEqual(await besides(browser, ".source .place"), ["0000 00010008", "0001 00000000", "0002 00000004"]);
     await browser.strike("ArrowUp");
     await browser.strike("F9");
     await settled(browser);
@@ -67,7 +69,47 @@ async function writing(browser, address) {
     );
     await browser.strike("F9");
     await settled(browser);
-    assert.deepEqual([await browser.value("laboratoryOfPage().rules"), await seen(browser, ".source .stop")], [[], []]);
+    assert.deepEqual([await browser.value("laboratoryOfPage().rules"), await besides(browser, ".source .stop")], [[], []]);
+}
+
+/** What is exposed below a node of Chromium's accessibility tree: each text, and whatever is said of a text besides. */
+function exposedBelow(nodes, { childIds = [] }) {
+    const below = childIds.map((id) => nodes.find(({ nodeId }) => nodeId === id)).filter((it) => it !== undefined);
+    return below.flatMap((node) => {
+        if (!node.ignored && node.role.value === "StaticText") return [{ text: node.name.value }];
+        const said = [node.name?.value, node.description?.value].filter((it) => !node.ignored && (it ?? "") !== "");
+        return [...said.map((it) => ({ said: it })), ...exposedBelow(nodes, node)];
+    });
+}
+
+/** What is read out of the source is what is written, and nothing else. */
+async function readsWhatIsWritten(browser) {
+    const written = await browser.written();
+    // some engines end the last line too
+    assert.equal((await browser.value("document.querySelector('.source [role=textbox]').innerText")).replace(/\n$/, ""), written);
+    assert.deepEqual(await seen(browser, ".source [role=textbox] [title]"), []);
+    if (browser.engine !== "Chromium") return;
+    const { nodes } = await browser.ask("Accessibility.getFullAXTree");
+    const box = nodes.find(({ ignored, role, name }) => !ignored && role.value === "textbox" && name?.value === "The program's text");
+    const exposed = exposedBelow(nodes, box);
+    assert.equal(box.value.value, written);
+    assert.deepEqual(exposed.filter(({ said }) => said !== undefined), []);
+    assert.equal(exposed.map(({ text }) => text).join(""), written.replaceAll("\n", ""));
+}
+
+/** A screen reader is given what is written and nothing else: no number, no place, no stop, and not what is wrong with a word. */
+async function sourceReadOut(browser, address) {
+    await browser.open(`${address}?lang=en&door=work`);
+    await browser.write("start b one ; bring it\n      z\none   word 00000004\n      end start");
+    await focusEditor(browser);
+    await toldIs(browser, /^No fault/);
+    await browser.strike("ArrowUp");
+    await browser.strike("F9");
+    await browser.waitFor("document.querySelectorAll('.source .stop').length === 1");
+    await readsWhatIsWritten(browser);
+    await browser.write("start b one ; bring it\n      q 0050 ; no order\none   word 00000004\n      end start");
+    await browser.waitFor("document.querySelector('.source .wave') !== null");
+    await readsWhatIsWritten(browser);
 }
 
 /**
@@ -118,11 +160,11 @@ async function changedWords(browser, address) {
     await browser.write("start b sum\n a one\n h sum\n z\none word 00000002\nsum word 00000000\n end start");
     await browser.value("document.querySelector('#run-program').click()");
     await browser.waitFor("document.querySelectorAll('.source .place.changed').length === 1");
-    assert.deepEqual(await seen(browser, ".source .place.changed"), ["0005 00000002"]);
+    assert.deepEqual(await besides(browser, ".source .place.changed"), ["0005 00000002"]);
     await browser.value("laboratoryOfPage().back(3)");
     await browser.waitFor("document.querySelectorAll('.source .place.changed').length === 0");
     await browser.value("laboratoryOfPage().say('press manual', 'put 0004 00000008')");
-    await browser.waitFor("document.querySelector('.source .place.changed')?.textContent === '0004 00000008'");
+    await browser.waitFor(`${drawnAt(".source .place.changed")}[0] === '0004 00000008'`);
     assert.doesNotMatch(await browser.value("laboratoryOfPage().transcript()"), /numbers/);
 }
 
@@ -144,7 +186,12 @@ async function apart(browser, address) {
     assert.deepEqual([first === second, first > alone + 100, isLow], [true, true, true]);
     await browser.write(` b 0050 ; ${"a long comment ".repeat(20)}\n end 0000`);
     assert.deepEqual((await places())[0], [first, true]);
-    assert.equal(await browser.value("document.querySelector('.source .cm-comment').title"), "a long comment ".repeat(20));
+    const titleUnderMouse = `(() => {
+        const comment = document.querySelector('.source .cm-comment');
+        comment.dispatchEvent(new MouseEvent('mouseover', { bubbles: true }));
+        return comment.title;
+    })()`;
+    assert.equal(await browser.value(titleUnderMouse), "a long comment ".repeat(20));
     await browser.value(`(${EDITOR}.focus(), ${EDITOR}.setCursor(0, 300), void ${EDITOR}.scrollIntoView(null))`);
     await browser.strike("End");
     await browser.waitFor(
@@ -352,7 +399,7 @@ async function bars(browser, address) {
     assert.doesNotMatch(await browser.value("document.querySelector('.sentence-of-order').textContent"), /was next under the head/);
 }
 
-const VISITS = { bars, card, changedWords, values, writing, editing, apart, keys, pasting, opening };
+const VISITS = { bars, card, changedWords, values, writing, sourceReadOut, editing, apart, keys, pasting, opening };
 
 /** The visits of the editor of the page at an address, by their names. */
 export const visitsOfEditor = (address) => (

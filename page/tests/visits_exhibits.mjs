@@ -12,16 +12,14 @@ const [ACROSS, UPRIGHT] = [[1920, 1080], [1080, 1920]];
 /** How long a scene may take, at a busy computer. */
 const LONG = 300_000;
 const settled = (browser) => browser.value("laboratoryOfPage().settled()");
-const strike = (browser, key, more = {}) => browser.value(
+export const strike = (browser, key, more = {}) => browser.value(
     `void document.body.dispatchEvent(new KeyboardEvent("keydown", { key: ${JSON.stringify(key)}, bubbles: true, ...${JSON.stringify(more)} }))`
 );
 export const paperOf = (browser) => browser.value("laboratoryOfPage().printed.text");
 const toldIn = (browser) => browser.value("document.querySelector('.kiosk-told').textContent");
-const isIn = (scene) => `document.body.dataset.scene === ${JSON.stringify(scene)}`;
+export const isIn = (scene) => `document.body.dataset.scene === ${JSON.stringify(scene)}`;
 export const isDone = (scene) => `${isIn(scene)} && document.body.dataset.busy === "false"`;
-const textOf = (name, scene, caption, code) => (
-    JSON.parse(readFileSync(join(top, `page/exhibits/${name}.json`), "utf8")).scenes[scene].captions[caption].text[code]
-);
+const textOf = (name, scene, caption, code) => JSON.parse(fileOf(name)).scenes[scene].captions[caption].text[code];
 
 /** What an example prints, as its file of expected replies has it. */
 const expectedOf = (name, which = -1) => readFileSync(join(top, `examples/${name}.expected`), "utf8")
@@ -31,14 +29,30 @@ const expectedOf = (name, which = -1) => readFileSync(join(top, `examples/${name
     .replace(/^printed \d+ /, "")
     .replaceAll("[16]", "\n");
 
+/** The exhibits of the page, and those that were written by following its document and are opened by an address that has them in itself. */
+const [OF_PAGE, WRITTEN] = [["weather", "loop", "twenty-one", "formula"], ["greeting", "primes"]];
+const fileOf = (name) => readFileSync(join(top, `${WRITTEN.includes(name) ? "docs" : "page"}/exhibits/${name}.json`), "utf8");
+const placeOf = (name) => (
+    WRITTEN.includes(name) ? `#exhibit=${encodeURIComponent(JSON.stringify(JSON.parse(fileOf(name))))}` : `#kiosk=${name}`
+);
+
 /** Opens an exhibit; another query lets the page be opened anew where only what follows # is another. */
 let opened = 0;
-async function open(browser, address, name, code, [width, height], more = "") {
+export async function open(browser, address, name, code, [width, height], more = "") {
     opened += 1;
     await browser.size(width, height);
-    await browser.open(`${address}?lang=${code}&n=${opened}${more}#kiosk=${name}`);
+    await browser.open(`${address}?lang=${code}&n=${opened}${more}${placeOf(name)}`);
     await browser.waitFor(isIn("attract"));
 }
+
+/** Gives the page a file, as a visitor does who chooses it in Work. */
+const give = (browser, name, text) => browser.value(`(() => {
+    const given = new DataTransfer();
+    given.items.add(new File([${JSON.stringify(text)}], ${JSON.stringify(name)}));
+    const input = document.querySelector("#choices input[type=file]");
+    input.files = given.files;
+    input.dispatchEvent(new Event("change"));
+})()`);
 
 /** A picture of a moment. */
 const moment = (browser, pictures, name) => (pictures === undefined ? undefined : browser.picture(join(pictures, `exhibit-${name}.png`)));
@@ -154,6 +168,49 @@ async function formula(browser, address, press, code, size, pictures) {
     await assertSeen(browser, "made");
 }
 
+/** In the page: keeps each caption with the label at which the machine stands when it is shown, and the paper. */
+const KEEP_CAPTIONS = `(() => {
+    const kept = globalThis.captionsSeen = [];
+    const keep = () => {
+        const { labels, panel, printed: { text } } = laboratoryOfPage();
+        const told = document.querySelector(".kiosk-told")?.textContent ?? "";
+        if (told !== "" && told !== kept.at(-1)?.[0]) kept.push([told, labels.get(panel.counter)?.[0] ?? "", text]);
+    };
+    new MutationObserver(keep).observe(document.body, { subtree: true, childList: true, characterData: true });
+})()`;
+
+/** The sieve with its bet, as a museum has it: by its file or its address; each caption comes where the machine is what it says. */
+async function primes(browser, address, press, code, size, pictures) {
+    const told = (scene, caption) => textOf("primes", scene, caption, code);
+    if (press === PRESSES.keys) {
+        await browser.open(`${address}?lang=${code}&door=work`);
+        await browser.size(...size);
+        await give(browser, "primes.json", fileOf("primes"));
+        await browser.waitFor(isIn("attract"));
+        assert.equal(await browser.value("location.hash"), placeOf("primes"));
+    } else await open(browser, address, "primes", code, size, "&idle=900");
+    await browser.waitFor("laboratoryOfPage().printed.text.startsWith('2 3 ')", LONG);
+    await assertSeen(browser, "attract");
+    await browser.value(`void ${KEEP_CAPTIONS}`);
+    await press(browser, 1);
+    await browser.waitFor(isDone("sieve"), LONG);
+    await browser.waitFor(`document.querySelector('.kiosk-told').textContent === ${JSON.stringify(told("sieve", 4))}`, LONG);
+    await moment(browser, pictures, `primes-${code}-${size[0]}`);
+    await assertSeen(browser, "sieve");
+    const wanted = [["prime", ""], ["off", "2 "], ["prime", "2 "], ["prime", "2 "]].map((it, place) => [told("sieve", place + 1), ...it]);
+    const seen = await browser.value("captionsSeen");
+    assert.deepEqual(seen.filter(([text]) => wanted.some(([caption]) => caption === text)), wanted);
+    await press(browser, 2);
+    await browser.waitFor(`document.querySelector('.kiosk-told').textContent === ${JSON.stringify(told("rest", 2))}`, LONG);
+    await browser.waitFor(isDone("rest"), LONG);
+    assert.equal(await paperOf(browser), expectedOf("tables/primes", 1));
+    await assertSeen(browser, "rest");
+    await press(browser, 1);
+    await browser.waitFor(isIn("sieve"));
+    await press(browser, 4);
+    await browser.waitFor(isIn("attract"));
+}
+
 /** A game of twenty-one, shuffled by a number that always gives the same cards. */
 async function twentyOne(browser, address, press, code, size, pictures) {
     await open(browser, address, "twenty-one", code, size, "&idle=900");
@@ -184,7 +241,7 @@ async function twentyOne(browser, address, press, code, size, pictures) {
  */
 async function exhibitsChosen(browser, address, pictures) {
     await browser.size(...ACROSS);
-    await browser.open(`${address}?lang=de&idle=4#kiosk`);
+    await browser.open(`${address}?lang=de&idle=10#kiosk`);
     await browser.waitFor(isIn("attract"));
     const labels = () => browser.value("[...document.querySelectorAll('.kiosk-bar button')].map((it) => it.textContent)");
     const first = await labels();
@@ -221,22 +278,15 @@ async function exhibitsChosen(browser, address, pictures) {
  * leads to the work as it was.
  */
 async function exhibitOfOnesOwn(browser, address) {
-    const file = readFileSync(join(top, "docs/exhibits/greeting.json"), "utf8");
-    const give = (text) => browser.value(`(() => {
-        const given = new DataTransfer();
-        given.items.add(new File([${JSON.stringify(text)}], "greeting.json"));
-        const input = document.querySelector("#choices input[type=file]");
-        input.files = given.files;
-        input.dispatchEvent(new Event("change"));
-    })()`);
+    const file = fileOf("greeting");
     await browser.size(1366, 768);
     await browser.open(`${address}?lang=en&door=work`);
     await browser.write("; mine");
-    await give(file.replace('"to": "switch"', '"to": "swich"'));
+    await give(browser, "greeting.json", file.replace('"to": "switch"', '"to": "swich"'));
     await browser.waitFor(
         "document.querySelector('#notice').textContent.includes('scenes.attract.buttons[0].to is \"swich\". The scenes are attract, switch.')"
     );
-    await give(file);
+    await give(browser, "greeting.json", file);
     await browser.waitFor(`${isIn("attract")} && laboratoryOfPage().printed.text === "\\ngood day"`);
     const address2 = await browser.value("location.href");
     await strike(browser, "1");
@@ -261,8 +311,8 @@ async function exhibitOfOnesOwn(browser, address) {
     await browser.waitFor(`${isDone("deal")} && document.querySelector('#notice').hidden`);
 }
 
-/** How many keys and touches a visitor at random has in each exhibit. */
-const TOUCHES = 300;
+/** How many keys and touches a visitor at random has in each exhibit; TOUCHES names another number, and EXHIBITS the exhibits. */
+const [TOUCHES, TOUCHED] = [Number(process.env.TOUCHES ?? 300), process.env.EXHIBITS?.split(" ") ?? [...OF_PAGE, ...WRITTEN]];
 
 /**
  * Visitors press keys and touch places at random: the exhibit is in one of its scenes, with four buttons, at its own address, and nothing
@@ -270,8 +320,8 @@ const TOUCHES = 300;
  */
 async function exhibitsAtRandom(browser, address) {
     const keys = ["1", "2", "2", "3", "3", "4", "x", "Enter", "Escape", "F5", "ArrowLeft"];
-    for (const name of ["weather", "loop", "twenty-one", "formula"]) {
-        const { scenes } = JSON.parse(readFileSync(join(top, `page/exhibits/${name}.json`), "utf8"));
+    for (const name of TOUCHED) {
+        const { scenes } = JSON.parse(fileOf(name));
         await open(browser, address, name, "en", [1366, 768]);
         const [before, among] = [await browser.value("location.href"), chance(name.length)];
         for (let done = 0; done < TOUCHES; done += 20) {
@@ -292,7 +342,7 @@ async function exhibitsAtRandom(browser, address) {
         }
         await open(browser, address, name, "en", [1366, 768]);
     }
-    return `${4 * TOUCHES} keys and touches`;
+    return `${TOUCHED.length * TOUCHES} keys and touches`;
 }
 
 /** In the first scene and where something stands beside the paper, all is seen at each size of a kiosk, on a tablet, and on a telephone. */
@@ -312,6 +362,62 @@ async function exhibitsFit(browser, address) {
             );
             assert.ok(await browser.value("document.documentElement.scrollHeight <= innerHeight"), `${name} at ${size}`);
         }
+    }
+}
+
+/** A way through each exhibit: which buttons are pressed, and in which scene each press ends. */
+const WAYS = {
+    weather: [[1, "weather"], [2, "again"], [3, "drawn"], [2, "believed"], [4, "attract"]],
+    loop: [[1, "rounds"], [3, "carry"], [3, "end"], [4, "attract"]],
+    "twenty-one": [[1, "deal"], [2, "play"], [4, "attract"]],
+    formula: [[1, "tape"], [3, "own"], [2, "operation"], [2, "number"], [1, "operation"], [3, "made"], [4, "attract"]],
+    greeting: [[1, "switch"], [4, "attract"]],
+    primes: [[1, "sieve"], [2, "rest"], [4, "attract"]],
+};
+
+/** What has the focus: its name, whether it is seen whole in the window and hit, and whether a ring is around it. */
+const FOCUSED = `(() => {
+    const it = document.activeElement;
+    const { left, top, right, bottom } = it.getBoundingClientRect();
+    const { outlineStyle, outlineWidth } = getComputedStyle(it);
+    const hit = document.elementFromPoint((left + right) / 2, (top + bottom) / 2);
+    const isWhole = left >= -1 && top >= -1 && right <= innerWidth + 1 && bottom <= innerHeight + 1 && (it.contains(hit) || hit?.className || "nothing");
+    return [it.id || it.tagName, isWhole, outlineStyle !== "none" && parseFloat(outlineWidth) >= 2];
+})()`;
+
+/** Goes by Tab to a button of the kiosk; wherever the focus is on the way, it is seen. */
+async function tabTo(browser, number, what) {
+    for (let left = 12; left > 0; left -= 1) {
+        await browser.strike("Tab");
+        await laidOut(browser);
+        const [name, ...seen] = await browser.value(FOCUSED);
+        // past its last control the focus leaves the page for a moment
+        if (name === "BODY") continue;
+        assert.deepEqual(seen, [true, true], `${what}: the focus on ${name}`);
+        if (name === `kiosk-${number}`) return;
+    }
+    throw new Error(`${what}: Tab does not come to button ${number}`);
+}
+
+/** On a telephone and upright each exhibit is begun, played and left by Tab and Enter alone, and where the focus is can be seen. */
+async function exhibitsByTab(browser, address) {
+    for (const size of [[390, 844], UPRIGHT]) for (const [name, way] of Object.entries(WAYS)) {
+        await open(browser, address, name, "en", size, "&idle=900");
+        for (const [number, scene] of way) {
+            const what = `${name} at ${size}, to ${scene}`;
+            if (scene === "end") await browser.waitFor("document.querySelector('.bit.now') !== null", LONG);
+            await tabTo(browser, number, what);
+            await browser.strike("Enter");
+            await browser.waitFor(isIn(scene), LONG);
+            // the same button may be none in the next scene: then its focus goes on to another one
+            const [focused, ...seen] = await browser.value(FOCUSED);
+            assert.deepEqual([focused === "BODY", ...seen], [false, true, true], `${what}: then the focus is on ${focused}`);
+            const small = await browser.value("[...document.querySelectorAll('#page :is(button, a[href])')].filter((it) => it.checkVisibility({ visibilityProperty: true })).filter((it) => { const { width, height } = it.getBoundingClientRect(); return it.closest('.keys') === null && Math.min(width, height) < 44; }).map((it) => it.id || it.textContent)");
+            assert.deepEqual(small, [], `${what}: targets below 44 pixels`);
+            if (scene === "own" || scene === "operation" || scene === "number") await browser.waitFor(isDone(scene), LONG);
+        }
+        await browser.strike("L", "Control", "Shift");
+        await browser.waitFor("document.querySelector('.hall') !== null && document.documentElement.dataset.ready === 'true'");
     }
 }
 
@@ -342,7 +448,9 @@ const VISITS = {
     formulaByTouches: (browser, address, pictures) => formula(browser, address, PRESSES.touches, "en", UPRIGHT, pictures),
     twentyOneByKeys: (browser, address, pictures) => twentyOne(browser, address, PRESSES.keys, "de", ACROSS, pictures),
     twentyOneByTouches: (browser, address, pictures) => twentyOne(browser, address, PRESSES.touches, "en", UPRIGHT, pictures),
-    weatherFast, exhibitsChosen, exhibitOfOnesOwn, exhibitsAtRandom, exhibitsFit,
+    primesByKeys: (browser, address, pictures) => primes(browser, address, PRESSES.keys, "en", ACROSS, pictures),
+    primesByTouches: (browser, address, pictures) => primes(browser, address, PRESSES.touches, "de", UPRIGHT, pictures),
+    weatherFast, exhibitsByTab, exhibitsChosen, exhibitOfOnesOwn, exhibitsAtRandom, exhibitsFit,
 };
 
 /** The visits of the page at an address, by their names. */

@@ -1,8 +1,11 @@
 // Visits of Look: in every caption of every story head, caption, Next and the row that changes are in one window, on each screen; and what
 // is told is true of what is shown.
 import assert from "node:assert/strict";
+import { sectorAt } from "../machine.mjs";
 import { TALES } from "../views/tales.mjs";
+import { signedOf } from "../../libraries/javascript/replies.mjs";
 import { boxes, hiddenTexts, laidOut, numbersOf, unhit, unseenAtLast } from "./seen.mjs";
+import { SEEN, WATCH } from "./visits_order.mjs";
 
 const settled = (browser) => browser.value("laboratoryOfPage().settled()");
 const SIZES = [[1366, 768], [1280, 720], [1024, 768], [390, 844]];
@@ -71,6 +74,112 @@ async function together(browser, address) {
     await browser.size(1500, 1250);
 }
 
+/** What the machine is while a caption is shown: the last order, the words of the list, the paper, and what the list tells of a word. */
+const stateOf = (browser) => browser.value(`(({ accounts, words, printed, history }) => {
+    const { at, word, order, find, seek, act, sum, before, after, stored, printed: sign } = accounts.at(-1);
+    return {
+        last: { at, word, order, find, seek, act, sum, before, after, stored, sign }, paper: printed.text, kept: history.behind,
+        orders: Object.fromEntries(words.map(({ address, order: name }) => [address, name])),
+        digits: Object.fromEntries(words.map(({ address, digits }) => [address, digits])),
+        why: document.querySelector(".why")?.textContent ?? "",
+    };
+})(laboratoryOfPage())`);
+
+/** What each caption claims, looked up in the machine as it is then. */
+const CLAIMS = {
+    wait: [
+        ({ last }) => last.at === "0000",
+        ({ last }) => last.at === "0001" && last.find > 0.7 * 64 && last.find < 0.75 * 64,
+        ({ last }) => last.at === "0004" && last.word === "0020" && last.find > 1 && last.seek > 1,
+        ({ last }) => (last.find + last.seek - 2) / last.sum > 0.8,
+        () => [0, 1, 2, 9].map(sectorAt).join() === "0,57,50,1",
+    ],
+    rewrite: [
+        ({ orders }) => orders["0009"] === "a 0100",
+        ({ last, digits }) => last.order === "b 0009" && last.after === digits["0009"],
+        ({ last }) => last.order.startsWith("a ") && signedOf(last.after) - signedOf(last.before) === 4,
+        ({ last, orders }) => last.stored?.address === "0009" && orders["0009"] === "a 0101",
+        ({ last, digits }) => last.stored?.after.digits === digits["0009"],
+    ],
+    type: [
+        ({ orders, paper }) => orders["0013"] === "p 4600" && paper === "",
+        ({ last, orders }) => last.stored?.address === "0005" && orders["0005"] === "p 4600",
+        ({ last, paper }) => last.sign?.sign === "g" && paper === "g" && Math.floor(last.act / 64) === 6,
+        ({ last, orders }) => last.stored?.address === "0002" && orders["0002"] === "b 0014",
+        ({ paper }) => paper.length > 0 && "good day".startsWith(paper.trimEnd()),
+    ],
+    who: [
+        ({ orders }) => orders["0009"] === "a 0100",
+        ({ last }) => last.order === "y 0009" && last.at === "0013" && last.stored?.address === "0009",
+        ({ kept }) => kept === 12,
+        ({ why }) => ["0009", "y 0009", "0013", "a 0100"].every((named) => why.includes(named)),
+        ({ orders }) => Object.keys(orders).length > 4,
+    ],
+    rewind: [
+        ({ paper }) => paper.startsWith("1\n2\n2\n"),
+        ({ last, orders, paper }) => last.sign?.sign === "2" && orders["0000"] === "p 1001" && paper.trimEnd() === "1\n2\n2",
+        ({ orders, digits, why }) => orders["0003"] === "a 0012" && digits["0012"] === "00000004" && why.includes("h 0012"),
+        ({ last }) => last.at === "0007" && last.stored?.address === "0012" && last.stored.before.digits === "00000400",
+        ({ digits }) => digits["0012"] === "00000004",
+    ],
+};
+
+/**
+ * A caption while it is played: what was seen, and the orders seen below it that are neither of those that it plays nor the last one done
+ * before.
+ */
+async function seenBelow(browser, { before, plays, back = [], runs }, at) {
+    const [last, kept] = await browser.value(
+        "(({ accounts, history }) => [accounts.at(-1)?.at, history.behind])(laboratoryOfPage())"
+    );
+    const runsOn = runs && at === plays.length - 1;
+    await browser.value(`void ${WATCH}`);
+    if (at > 0) await browser.press("#caption-next");
+    const begun = at === 0 ? before : kept - (back[at - 1] ?? 0);
+    await captionPlayed(browser, at + 1, runsOn ? Infinity : begun + plays[at]);
+    const seen = await browser.value(SEEN);
+    const orders = await browser.value("laboratoryOfPage().accounts.map(({ at }) => at)");
+    const [played, done] = [orders.slice(orders.length - plays[at]), [last, orders.at(-1 - plays[at])]];
+    const isStray = (phase, place) => !played.includes(place) && !(phase === "done" && (at === 0 || done.includes(place)));
+    const below = seen.captions.map((it) => it.split(" ")).filter(([, shown]) => shown === String(at + 1));
+    return { ...seen, stray: runsOn ? [] : below.filter((it) => isStray(it.at(-2), it.at(-1))) };
+}
+
+/**
+ * At each picture of each story the list, the ring, its pin, the hub and the register are of one order; that is one that the caption plays,
+ * or the last one done before; and what a caption claims is so of the machine.
+ */
+async function captionsAreSo(browser, address) {
+    let pictures = 0;
+    await browser.size(1366, 768);
+    for (const code of ["en", "de"]) for (const [story, tale] of TALES.entries()) for (const at of tale.plays.keys()) {
+        if (at === 0) await browser.open(`${address}?lang=${code}&story=${story + 1}`);
+        const seen = await seenBelow(browser, tale, at);
+        const [where, state] = [`${tale.name}, caption ${at + 1}, ${code}`, await stateOf(browser)];
+        assert.deepEqual([seen.wrong, seen.stray, seen.pictures > 0], [[], [], true], where);
+        assert.ok(CLAIMS[tale.name][at](state), `${where}: ${JSON.stringify(state)}`);
+        pictures += seen.pictures;
+    }
+    await browser.size(1500, 1250);
+    return `${pictures} pictures`;
+}
+
+/** Waits until a caption is there and what it plays is played to its end; where it runs on, until it has printed something. */
+async function captionPlayed(browser, at, kept) {
+    await browser.waitFor(
+        `document.querySelector('.caption-at').textContent.startsWith('${at} ') && document.querySelector('.caption').getAttribute('aria-busy') === 'false'`
+    );
+    if (kept === Infinity) {
+        await browser.waitFor("laboratoryOfPage().printed.text.length > 2");
+        await browser.halt();
+    }
+    await browser.waitFor(
+        `(${kept} === Infinity || laboratoryOfPage().history.behind === ${kept}) && document.querySelector('.drum .fixed').dataset.phase === 'done'`
+    );
+    await settled(browser);
+    await laidOut(browser);
+}
+
 /**
  * Look plays its first story by itself, with Back and Next; a story that prints shows the paper in place of the accumulator, and an act of
  * many turns says that it passes faster.
@@ -96,7 +205,7 @@ async function printing(browser, address) {
 
 /** What follows the last story is the game. */
 async function gameAfterStories(browser, address) {
-    await browser.open(`${address}?lang=en&story=4&caption=5`);
+    await browser.open(`${address}?lang=en&story=5&caption=5`);
     await settled(browser);
     await browser.waitFor("document.querySelector('#caption-next').textContent === 'Make it faster'");
     await browser.press("#caption-next");
@@ -237,7 +346,9 @@ async function namesAtOnce(browser, address) {
     return undefined;
 }
 
-const VISITS = { captionsWait, namesAtOnce, quietAtFirst, gameAfterStories, hallDrum, lookTogether: together, lookPrinting: printing };
+const VISITS = {
+    captionsAreSo, captionsWait, namesAtOnce, quietAtFirst, gameAfterStories, hallDrum, lookTogether: together, lookPrinting: printing,
+};
 
 /** The visits of Look, by their names. */
 export const visitsOfLook = (address) => (

@@ -2,14 +2,17 @@
 // which is one that the monitor has told.
 import assert from "node:assert/strict";
 import { KIOSK } from "../exhibit.mjs";
-import { checkOf, examples } from "./exhibited.mjs";
+import { checkOf, examplesOfPart } from "./exhibited.mjs";
 import { chance } from "./visits_kiosk.mjs";
 
 const settled = (browser) => browser.value("laboratoryOfPage().settled()");
 
-/** In the page: looks at each picture at all that shows the order under way, and keeps what does not agree, and which phases were seen. */
-const WATCH = `(() => {
-    const seen = globalThis.seen = { pictures: 0, phases: new Set(), wrong: [], isOn: true };
+/**
+ * In the page: looks at each picture at all that shows the order under way, and keeps what does not agree, which phases were seen, and
+ * which orders were under way below which caption of a story, or the last ones done.
+ */
+export const WATCH = `(() => {
+    const seen = globalThis.seen = { pictures: 0, phases: new Set(), captions: new Set(), wrong: [], isOn: true };
     const textOf = (selector) => document.querySelector(selector)?.textContent ?? null;
     const look = () => {
         if (!seen.isOn) return;
@@ -30,14 +33,16 @@ const WATCH = `(() => {
         const isOne = new Set(places).size === 1 && (places[0] === undefined ? sector === null : Number(sector) === Number(places[0].slice(2))) && (row === null || row.dataset.phase === phase) && (!isTaken || register === order);
         seen.pictures += 1;
         seen.phases.add(phase);
+        const below = document.querySelector(".caption[aria-busy=false]");
+        if (below !== null) seen.captions.add([below.dataset.story, parseInt(textOf(".caption-at")), phase === "done" ? "done" : "under way", places[0]].join(" "));
         if (!isOne || !told || document.querySelectorAll('.words-table [aria-current="step"]').length > 1) seen.wrong.push([phase, sector, order, register, told, row?.dataset.phase, ...places].join(" "));
     };
     look();
 })()`;
 
-/** Ends the looking. Gives the pictures, the phases, and the first ones that did not agree. */
-const SEEN =
-    "(() => { const { seen } = globalThis; seen.isOn = false; return { pictures: seen.pictures, phases: [...seen.phases].sort(), wrong: seen.wrong.slice(0, 3) }; })()";
+/** Ends the looking. Gives the pictures, the phases, what was seen below captions, and the first ones that did not agree. */
+export const SEEN =
+    "(() => { const { seen } = globalThis; seen.isOn = false; return { pictures: seen.pictures, phases: [...seen.phases].sort(), captions: [...seen.captions], wrong: seen.wrong.slice(0, 3) }; })()";
 
 /** What is looked at: an address, and what sets the machine going there. */
 const DOORS = {
@@ -212,18 +217,18 @@ async function touchedIn(browser, address, name, checks, [width, height]) {
     return pictures;
 }
 
-/** Each example of the kiosk is touched at random in three windows. */
+/** Each example of the kiosk is touched at random in three windows; PART says which of them, since many touches take long. */
 async function touchedAtRandom(browser, address) {
     let pictures = 0;
     const game = await checkOf(KIOSK.game);
-    for (const name of examples) {
+    for (const name of examplesOfPart) {
         const checks = { [name]: await checkOf(name), [KIOSK.game]: game };
         for (const size of SIZES) pictures += await touchedIn(browser, address, name, checks, size);
     }
-    assert.ok(pictures > examples.length, `only ${pictures} pictures had an order under way`);
+    assert.ok(pictures > examplesOfPart.length, `only ${pictures} pictures had an order under way`);
     await browser.open(`${address}?lang=en&door=work`);
     await browser.size(1500, 1250);
-    return `${examples.length} examples, ${TOUCHES} touches each in ${SIZES.length} windows, ${pictures} pictures of an order under way`;
+    return `${examplesOfPart.length} examples, ${TOUCHES} touches each in ${SIZES.length} windows, ${pictures} pictures of an order under way`;
 }
 
 const VISITS = { orderUnderWay, touchedAtRandom };

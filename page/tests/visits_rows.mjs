@@ -114,6 +114,54 @@ async function wholeRows(browser, address) {
     return undefined;
 }
 
+/** Runs in the page: the lines of texts and lists that end at the lower edge of what they are scrolled in, but those of an editor. */
+const cutLines = (browser) => browser.value(`(async () => {
+    for (let picture = 0; picture < 5; picture += 1) { ${pictured} }
+    const found = [];
+    const cuts = (it) => /auto|scroll|hidden|clip/.test(getComputedStyle(it).overflowY);
+    for (const box of document.querySelectorAll("#page *, dialog, dialog *")) {
+        if (!box.checkVisibility({ visibilityProperty: true }) || box.closest(".unseen, svg, .CodeMirror") || !cuts(box) || box.scrollHeight <= box.clientHeight + 1) continue;
+        const [{ bottom, height }, { borderBottomWidth, clipPath }] = [box.getBoundingClientRect(), getComputedStyle(box)];
+        if (height < 12 || clipPath !== "none") continue;
+        const end = bottom - parseFloat(borderBottomWidth);
+        const [lines, texts] = [document.createRange(), document.createTreeWalker(box, NodeFilter.SHOW_TEXT)];
+        while (texts.nextNode() !== null) {
+            const { data, parentElement } = texts.currentNode;
+            if (data.trim() === "" || parentElement.closest(".unseen, .CodeMirror") || !parentElement.checkVisibility({ visibilityProperty: true })) continue;
+            let near = parentElement;
+            while (near !== box && !cuts(near)) near = near.parentElement;
+            lines.selectNodeContents(texts.currentNode);
+            const isCut = ({ top: from, bottom: to, width }) => width > 1 && from + 0.2 * (to - from) < end - 1 && to - 0.2 * (to - from) > end + 1;
+            if (near === box && [...lines.getClientRects()].some(isCut)) found.push(box.className + ": " + data.trim().slice(0, 40));
+        }
+    }
+    return found;
+})()`);
+
+/** What stands behind the doors: each has a text, a list or a sheet that may be longer than its place. */
+const PLACES = [
+    "door=hall", "story=1&caption=2", "story=3&caption=2", "story=4&caption=4", "door=learn", "lesson=a-computer-on-a-drum&step=3",
+    "lesson=rewriting&step=12", "lesson=what-can-a-forecast-know&step=4", "task=sum", "task=peaks", "door=work#weather/lorenz",
+];
+
+/** Behind each door, at each size, nothing that is scrolled ends with a part of a line, and no bar of the browser's is there. */
+async function wholeLines(browser, address) {
+    for (const [width, height] of [[1024, 768], [1366, 768], [1440, 900], [390, 844]]) {
+        await browser.size(width, height);
+        for (const code of ["en", "de"]) for (const behind of PLACES) {
+            await browser.open(`${address}?lang=${code}&n=${width}&${behind}`);
+            await settled(browser);
+            const where = `${behind} in ${code} at ${width} by ${height}`;
+            let found = await cutLines(browser);
+            for (let round = 0; round < 5 && found.length > 0; round += 1) found = await cutLines(browser);
+            assert.deepEqual(found, [], where);
+            assert.deepEqual((await cutRows(browser)).filter((it) => width > 760 || it.startsWith("a bar")), [], where);
+        }
+    }
+    await browser.open(`${address}?lang=en&door=work`);
+    await browser.size(1500, 1250);
+}
+
 /** What the menu has in each section, in its order. */
 const MENU = {
     hall: ["example", "sound", "kiosk", "language", "about"],
@@ -177,7 +225,7 @@ async function menu(browser, address) {
     await browser.size(1500, 1250);
 }
 
-const VISITS = { roomToLearn, wholeRows, menu };
+const VISITS = { roomToLearn, wholeRows, wholeLines, menu };
 
 /** The visits of the page at an address, by their names. */
 export const visitsOfRows = (address) => (

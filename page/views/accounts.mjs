@@ -156,29 +156,57 @@ export function makeAccounts(laboratory, texts, { playing, held, isFast }, why) 
     return { node: part("accounts", text("accounts"), empty, table), show, frame };
 }
 
-/** The part of the page with the time line, over which a slider goes back and forward; `when` tells where the machine is. */
-export function makeTime(laboratory, { text, code }, showing) {
+/**
+ * What goes to places one after another: the last one that is wanted, as soon as the one before is there; on a long way that one is left.
+ * By a hand that drags, or else by keys.
+ */
+function makeFollow(laboratory, halt) {
+    let [wanted, isGoing] = [null, false];
+    const goTo = (place, isDragged) => {
+        const { behind } = laboratory.history;
+        return isDragged ? laboratory.goTo(place) : place < behind ? laboratory.back(behind - place) : laboratory.forward(place - behind);
+    };
+    const follow = async (place, isDragged) => {
+        wanted = place;
+        if (laboratory.progress !== null) laboratory.stop();
+        if (isGoing) return;
+        isGoing = true;
+        halt();
+        while (wanted !== null) {
+            const next = wanted;
+            wanted = null;
+            if (next !== laboratory.history.behind) await goTo(next, isDragged);
+        }
+        isGoing = false;
+    };
+    return { follow, isGoing: () => isGoing };
+}
+
+/**
+ * The part of the page with the time line, over which a slider goes back and forward; `when` tells where the machine is. `halt` ends what
+ * goes on by itself.
+ */
+export function makeTime(laboratory, { text, code }, showing, halt) {
     const number = (value) => counted(value, code);
     const line = makeTimeline(laboratory, showing, (orders) => text("untoldOrders", { orders: number(orders) }));
-    const goTo = (at) => {
-        const { behind } = laboratory.history;
-        if (at < behind) laboratory.back(behind - at);
-        else if (at > behind) laboratory.forward(at - behind);
-    };
+    const going = makeFollow(laboratory, halt);
+    let isHeld = false;
     const slider = h("input", {
-        type: "range", min: 0, max: 0, step: 1, "aria-label": text("slider"), onchange: () => goTo(Number(slider.value)),
+        type: "range", min: 0, max: 0, step: 1, "aria-label": text("slider"), title: text("sliderHint"),
+        onpointerdown: () => { isHeld = true; },
+        onpointerup: () => { isHeld = false; },
+        onpointercancel: () => { isHeld = false; },
+        oninput: () => going.follow(Number(slider.value), isHeld),
+        onchange: () => going.follow(Number(slider.value), isHeld),
     });
     const [told, clock] = [h("output"), h("span", { class: "clock-turn" })];
     const show = () => {
-        const { behind, ahead, forgotten } = laboratory.history;
+        const { behind, ahead } = laboratory.history;
         slider.max = String(behind + ahead);
-        slider.value = String(behind);
+        // a hand that drags is not led
+        if (!isHeld && !going.isGoing()) slider.value = String(behind);
         slider.disabled = behind + ahead === 0;
-        tell(
-            told,
-            text("orderCount", { at: number(behind), of: number(behind + ahead) })
-                + (forgotten > 0 ? ` (${text("forgotten", { count: number(forgotten) })})` : "")
-        );
+        tell(told, text("orderCount", { at: number(behind), of: number(behind + ahead) }));
         slider.setAttribute("aria-valuetext", text("orderCount", { at: number(behind), of: number(behind + ahead) }));
         tell(
             clock,

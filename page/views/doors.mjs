@@ -75,10 +75,11 @@ const PICTURES = {
 };
 const pictureOf = (door) => s("svg", { class: "door-picture", viewBox: "0 0 64 58", "aria-hidden": "true" }, ...PICTURES[door]());
 
-/** The hall: what is seen here, three doors, and a button that stops the drum. */
+/** The hall: what is seen here, three doors, a button that stops the drum, and what is told of a hand that turns it. */
 export function makeHall({ text }, goTo, drive) {
     const stop = button("", () => (drive.pace === null ? drive.go("slow") : drive.halt()), { id: "hall-stop" });
     const doors = DOORS.map((door) => link(door, goTo, pictureOf(door), h("b", {}, text(door)), h("span", {}, text(`${door}Text`))));
+    const byHand = h("p", { class: "by-hand" });
     const show = () => tell(stop, text(drive.pace === null ? "hallGo" : "halt"));
     return {
         node: h(
@@ -87,8 +88,9 @@ export function makeHall({ text }, goTo, drive) {
             h("h2", { id: "hall-title" }, text("hallTitle")),
             h("p", {}, text("hallText")),
             ...doors,
-            stop
+            h("div", { class: "line" }, stop, byHand)
         ),
         show,
+        byHand,
     };
 }

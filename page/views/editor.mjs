@@ -63,7 +63,7 @@ function setIn(cm, { text }, node) {
     const [shown, tokens] = [node.querySelector(".cm-comment"), tokensOf(text)];
     const comment = tokens.at(-1);
     if (shown === null || comment?.kind !== "comment") return;
-    shown.title = comment.text.replace(/^;\s*/, "");
+    shown.dataset.told = comment.text.replace(/^;\s*/, "");
     const missing = tokens.length === 1 ? 0 : COMMENTS - CodeMirror.countColumn(text, comment.from, cm.getOption("tabSize"));
     if (missing > 0) shown.style.marginLeft = `${missing * cm.defaultCharWidth()}px`;
 }
@@ -223,7 +223,8 @@ function makeMarks(cm) {
         marks = faults.flatMap(({ line, from, to, sentence }) => {
             const at = Math.min(line, cm.lineCount()) - 1;
             const handle = cm.addLineClass(at, "gutter", "fault");
-            const word = cm.markText({ line: at, ch: from }, { line: at, ch: Math.max(to, from) }, { className: "wave", title: sentence });
+            const is = { className: "wave", attributes: { "data-told": sentence } };
+            const word = cm.markText({ line: at, ch: from }, { line: at, ch: Math.max(to, from) }, is);
             return [() => cm.removeLineClass(handle, "gutter", "fault"), () => word.clear()];
         });
     });
@@ -252,6 +253,23 @@ function makeLight(cm) {
         const isNew = [now(lines.now, `now ${lines.phase}`), next(lines.coming === lines.now ? null : lines.coming, "next")].includes(true);
         if (isNew && !cm.hasFocus()) cm.scrollIntoView({ line: (lines.now ?? lines.coming) - 1, ch: 0 }, 60);
     });
+}
+
+/**
+ * What is written is read out alone: what stands beside the lines is drawn by the style and is no text, and what is told of a word is a
+ * title only where the mouse is.
+ */
+function readOnlyWhatIsWritten(cm) {
+    // it hears the mouse where the text does, which keys reach
+    const node = cm.getWrapperElement();
+    cm.on("update", () => {
+        for (const it of node.querySelectorAll(".CodeMirror-linenumber:not(:empty)")) {
+            it.dataset.shown = it.textContent;
+            it.textContent = "";
+        }
+    });
+    node.addEventListener("mouseover", ({ target }) => { if (target.dataset.told !== undefined) target.title = target.dataset.told; });
+    node.addEventListener("mouseout", ({ target }) => { if (target.dataset.told !== undefined) target.removeAttribute("title"); });
 }
 
 /** Tells the number of the line in which somebody writes, until it is left; null where nobody does. */
@@ -335,10 +353,7 @@ export function makeEditor(name, texts, {
     const inWork = makeInWork(cm);
     for (const kind of ["cursorActivity", "blur"]) cm.on(kind, moved);
     cm.on("gutterClick", (unused, line) => pressed(line + 1));
-    // what is written is read out, and not what stands beside it
-    cm.on("update", () => {
-        for (const it of node.querySelectorAll(".CodeMirror-gutter-wrapper:not([aria-hidden])")) it.setAttribute("aria-hidden", "true");
-    });
+    readOnlyWhatIsWritten(cm);
     new ResizeObserver(() => cm.refresh()).observe(node);
     const goTo = (line, from, to) => {
         cm.focus();

@@ -2,7 +2,7 @@
 import { SECTORS } from "../addresses.mjs";
 import { positionOf, sectorAt } from "../machine.mjs";
 import { counted } from "../words.mjs";
-import { h, s } from "./dom.mjs";
+import { h, s, tell } from "./dom.mjs";
 import { STEP, X, Y, angleOf, at, fixed } from "./drum.mjs";
 import { apart, inRadians, turned } from "./pins.mjs";
 
@@ -197,8 +197,8 @@ function hearWheelAndKeys(node, turning) {
     });
 }
 
-/** What turns the drum: its ring and its rim, by a drag, a wheel or keys. */
-export function makeTurner(box, { text, code }, turning) {
+/** What turns the drum: its ring and its rim, by a drag, a wheel or keys. What a drag has done is told in the hall as well. */
+export function makeTurner(box, { text, code }, turning, byHand) {
     const node = h("div", {
         class: "turner", role: "slider", tabindex: "0", "aria-label": text("turnDrum"), "aria-valuemin": 0, "aria-valuemax": SECTORS - 1,
     });
@@ -210,8 +210,10 @@ export function makeTurner(box, { text, code }, turning) {
             "aria-valuetext", text(left > 0 ? "turnSays" : "turnRests", { clock: counted(Math.floor(clock), code), left: Math.ceil(left) })
         );
         const turns = Math.round(clock - began);
+        const times = turns < 0 ? `−${-turns}` : `+${turns}`;
         if (began === null) delete box.dataset.turned;
-        else box.dataset.turned = text("turnedBy", { times: turns < 0 ? `−${-turns}` : `+${turns}` });
+        else box.dataset.turned = text("turnedBy", { times });
+        tell(byHand, began === null ? text("turnMe") : text(left > 0 ? "turnedSo" : "turnedThere", { times, left: Math.ceil(left) }));
     };
     hearDrag(node, box, turning, (isHeld) => {
         if (isHeld) turning.take();

@@ -42,8 +42,8 @@ function makeHappenings(laboratory, texts, { drive, playing, markNow, isStill },
 const SHORT = 40;
 
 /** The share of the told word times in which the machine waited for its drum, in percent; null where not all orders were told. */
-function waitedIn({ accounts, history: { behind, forgotten } }) {
-    if (accounts.length === 0 || accounts.length < behind + forgotten) return null;
+function waitedIn({ accounts, history: { behind } }) {
+    if (accounts.length === 0 || accounts.length < behind) return null;
     const sum = (of) => accounts.reduce((total, account) => total + of(account), 0);
     return Math.round((100 * sum(({ find, seek }) => Math.max(0, find - 1) + Math.max(0, seek - 1))) / sum((account) => account.sum));
 }
@@ -51,10 +51,10 @@ function waitedIn({ accounts, history: { behind, forgotten } }) {
 /** What is told at the end of the story: what the machine did, and a question. */
 export function endText(laboratory, texts, exhibit) {
     const { text, code } = texts;
-    const { history: { behind, forgotten }, panel, begunAt, printed, way } = laboratory;
+    const { history: { behind }, panel, begunAt, printed, way } = laboratory;
     if (way.kind === "keys") return text("kioskKeys");
     const [paper, waited] = [printed.text.trim(), waitedIn(laboratory)];
-    const did = text("kioskDid", { orders: counted(behind + forgotten, code), turns: turnsOf(Number(panel.clock - begunAt), texts) });
+    const did = text("kioskDid", { orders: counted(behind, code), turns: turnsOf(Number(panel.clock - begunAt), texts) });
     return [
         paper !== "" && paper.length <= SHORT ? text("kioskHasPrinted", { paper }) : text("kioskHasEnded"),
         did,
@@ -115,6 +115,7 @@ export function makeButtons(texts, exhibit) {
     ));
     const show = () => {
         const { labels, state } = exhibit;
+        const held = buttons.find((it) => it === document.activeElement);
         for (const [place, control] of buttons.entries()) {
             const label = labels[place];
             tell(control, label === null ? "" : labelIn(label, texts));
@@ -125,6 +126,9 @@ export function makeButtons(texts, exhibit) {
             if (label === "kioskLanguage") control.lang = code === "de" ? "en" : "de";
             else control.removeAttribute("lang");
         }
+        // who goes on by keys stays among the buttons where the one that was pressed is none by now
+        const isThere = (it) => !it.classList.contains("none");
+        if (held !== undefined && !isThere(held)) (buttons.find((it) => it.classList.contains("primary")) ?? buttons.find(isThere))?.focus();
     };
     return { node: h("div", { class: "kiosk-bar" }, ...buttons), show };
 }

@@ -2,6 +2,7 @@
 // order that wrote them.
 import { wholeAt } from "../kinds.mjs";
 import { button, h, memoized, oneStop, part, refill, s, tell, unseen } from "./dom.mjs";
+import { counted } from "../words.mjs";
 import { letterOf, rewrittenBy } from "./says.mjs";
 import { keepWhole } from "./scrolling.mjs";
 
@@ -92,10 +93,11 @@ function scrollTo(list, selectors) {
     while (rows.length > 1 && endsOf(rows)[1] - endsOf(rows)[0] > room) rows.pop();
     if (rows.length === 0) return;
     const [first, last] = endsOf(rows);
-    if (first >= list.scrollTop && last <= list.scrollTop + room) return;
-    const wanted = (first + last - room) / 2;
-    // at its very end a list may begin within a row
+    // at its very end a list may begin within a row, but not where it has become lower since
     const end = list.scrollHeight - head - room;
+    const isSeen = first >= list.scrollTop && last <= list.scrollTop + room;
+    if (isSeen && list.scrollTop >= end - 1) return;
+    const wanted = isSeen ? list.scrollTop : (first + last - room) / 2;
     const tops = [...list.querySelectorAll("tbody tr")].map(({ offsetTop }) => offsetTop - head).filter(
         (top) => top <= first && last <= top + room && top <= end
     );
@@ -106,6 +108,14 @@ function arrow({ start, end, height }) {
     return s("svg", { class: "arrow", width: 26, height, "aria-hidden": "true" },
         s("path", { pathLength: 1, d: `M 24 ${start} C 2 ${start} 2 ${end} 18 ${end}` }),
         s("polygon", { points: `18,${end - 5} 26,${end} 18,${end + 5}` }));
+}
+
+/** What is told of what put a word there, and, where that is of an earlier moment, a button that goes there. */
+export function whyNodes(laboratory, { lines, place }, { text, code }) {
+    const told = lines.join("\n");
+    if (place === null) return [told];
+    const there = button(text("goThere"), () => laboratory.goTo(place), { class: "go-there" });
+    return [`${text("whyThen", { at: counted(place, code) })} ${told} `, there];
 }
 
 /** The part of the page that shows words of the drum. */
@@ -126,10 +136,10 @@ export function makeListing(laboratory, texts, { held, isFast, hasCosts, markNow
     new ResizeObserver(scroll).observe(list, { box: "border-box" });
     const ask = async (address) => {
         if (hasCosts()) laboratory.askCosts(address);
-        const lines = await laboratory.why(address);
-        if (lines === undefined) return;
+        const told = await laboratory.why(address);
+        if (told === undefined) return;
         askedOf = laboratory.words;
-        answer.textContent = lines.join("\n");
+        answer.replaceChildren(...whyNodes(laboratory, told, texts));
         scroll();
     };
     const place = drafts.held(

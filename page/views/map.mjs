@@ -3,6 +3,7 @@
 import { SECTORS, addressOf, numberOf } from "../addresses.mjs";
 import { positionOf, sectorAt } from "../machine.mjs";
 import { button, h, part, tell } from "./dom.mjs";
+import { whyNodes } from "./listing.mjs";
 
 /**
  * The room for the numbers of tracks and sectors; the height of a track with words, and of one without; the last orders that are drawn
@@ -156,9 +157,13 @@ function makeWays({ text }, changed) {
 }
 
 /** What can be done with the word that is chosen, and the place for what the monitor answers. */
-function makeActions(laboratory, { text }, chosen, costsAsked) {
+function makeActions(laboratory, texts, chosen, costsAsked) {
+    const { text } = texts;
     const answer = h("p", { class: "map-answer", role: "status" });
-    const who = async () => { answer.textContent = (await laboratory.why(chosen()) ?? []).join("\n"); };
+    const who = async () => {
+        const told = await laboratory.why(chosen());
+        answer.replaceChildren(...(told === undefined ? [] : whyNodes(laboratory, told, texts)));
+    };
     const node = h(
         "div",
         { class: "line" },

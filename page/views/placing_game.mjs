@@ -239,7 +239,10 @@ function triesOf({ placing, picked, tried }) {
     ));
 }
 
-/** The seconds that are left, as a ring. They begin with the first move, and nothing is lost when they are over. */
+/**
+ * The seconds that are left, as a ring. They begin with the first move, and nothing is lost when they are over. Where they have no end
+ * there is nothing to count: what counted would hold a game that was left long ago.
+ */
 function makeTimer({ text }, seconds, over) {
     const [gone, told] = [
         s("circle", { class: "gone", cx: 30, cy: 30, r: 25, pathLength: 1, transform: "rotate(-90 30 30)" }), s("text", { x: 30, y: 31 }),
@@ -264,7 +267,7 @@ function makeTimer({ text }, seconds, over) {
         over();
     };
     const start = () => {
-        if (ends !== null) return;
+        if (ends !== null || seconds === Infinity) return;
         ends = performance.now() + 1000 * seconds;
         timer = setInterval(tick, 250);
     };

@@ -125,6 +125,16 @@ function makeWash(exhibit, paper) {
     } };
 }
 
+/** The text of a row, marked where it differs from the other one. */
+const marked = (row, other) => (
+    differing(row.text, other?.text ?? row.text).map((part) => (part.isOther ? h("b", {}, part.text) : part.text))
+);
+
+/** The class of a row: what is told speaks of it, or it is still to come. */
+const classOf = (row, told, isToCome) => (
+    told !== undefined && row?.text.startsWith(told) ? "row-now" : isToCome ? "to-come" : null
+);
+
 /**
  * What was torn off beside what is in the machine: rows that begin with the same number side by side, their other digits marked, and those
  * to come in grey.
@@ -142,12 +152,9 @@ function makeTorn(exhibit, { text }) {
         )
     );
     let shown = "";
-    const marked = (row, other) => (
-        differing(row.text, other?.text ?? row.text).map((part) => (part.isOther ? h("b", {}, part.text) : part.text))
-    );
     const show = () => {
-        const [torn, { text: paper }] = [exhibit.pieces.all.pieces.at(-1), exhibit.paper];
-        const key = `${torn?.number} ${paper.length}`;
+        const [torn, { text: paper }, told] = [exhibit.pieces.all.pieces.at(-1), exhibit.paper, exhibit.told?.row];
+        const key = `${torn?.number} ${paper.length} ${told}`;
         if (exhibit.beside?.torn !== true || key === shown) return;
         shown = key;
         const { pairs } = torn === undefined ? { pairs: [] } : sideBySide(rowsOf(torn.text, []), rowsOf(paper, []));
@@ -157,7 +164,7 @@ function makeTorn(exhibit, { text }) {
         const first = Math.max(0, last - BEFORE);
         const rows = pairs.slice(first, last + AFTER).map(([left, right], place) => h(
             "tr",
-            { class: first + place > last && paper !== "" ? "to-come" : null },
+            { class: classOf(right, told, first + place > last && paper !== "") },
             h("td", {}, left?.text ?? ""),
             h("td", {}, ...(right === null ? [] : marked(right, left)))
         ));
@@ -205,7 +212,9 @@ function makeBits(laboratory, exhibit, texts) {
         if (exhibit.beside?.bits === undefined) return;
         const { bits } = exhibit;
         const picture = bits === null ? null : bits.pictures[bits.seen - 1];
-        const digits = laboratory.answers[0]?.trim().split(" ")[1] ?? "00000000";
+        const [answer] = laboratory.answers;
+        if (answer === undefined && bits === null && shown !== "") return;
+        const digits = answer?.trim().split(" ")[1] ?? "00000000";
         const now = picture === undefined ? bitsOf(bits.before)
             : picture === null ? bitsOf(digits)
             : Array.from({ length: 32 }, (unused, place) => (picture.value >>> (31 - place)) & 1);

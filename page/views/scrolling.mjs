@@ -9,6 +9,9 @@ const LEAST = 24;
 const BOXES =
     ".with-arrows, .tab-panel, .scroll, .log, .script-lines, .explanation-text, .steps, .task-text, .task-answer, .card, .map-answer, .why, .piece-rows, .CodeMirror-scroll, .transcript, dialog";
 
+/** Texts and choices, which end with a whole line. */
+const TEXTS = ".task-text, .steps, .lesson details[open]";
+
 /** Of a box its frame, which is what is seen of it, and how long its content is: an editor's box is longer than its frame. */
 function lengthsOf(box) {
     const frame = box.closest(".CodeMirror") ?? box;
@@ -52,6 +55,7 @@ export function makeThumbs() {
         // a dialog lies above all else of the page, so the thumbs of what is in it lie in it
         const home = document.querySelector("dialog[open]") ?? document.body;
         if (layer.parentElement !== home) home.append(layer);
+        for (const box of document.querySelectorAll(TEXTS)) keepLines(box);
         const boxes = [...document.querySelectorAll(BOXES)];
         for (const [box, { node }] of thumbs) if (!box.isConnected) { node.remove(); thumbs.delete(box); }
         for (const box of boxes) {
@@ -66,16 +70,39 @@ export function makeThumbs() {
     return refresh;
 }
 
+/** Where the lines and the controls of a box are. */
+function* linesIn(box) {
+    const [lines, texts] = [document.createRange(), document.createTreeWalker(box, NodeFilter.SHOW_TEXT)];
+    while (texts.nextNode() !== null) {
+        lines.selectNodeContents(texts.currentNode);
+        yield* lines.getClientRects();
+    }
+    for (const control of box.querySelectorAll("button, input")) yield control.getBoundingClientRect();
+}
+
+/** How much of the end of a box would show a part of a row alone, of rows that are there. */
+function cutBelow({ bottom }, rows) {
+    const tops = [...rows].filter(({ top, bottom: end }) => top < bottom && end > bottom + 1).map(({ top }) => top);
+    return bottom - Math.min(bottom, ...tops);
+}
+
+/** Leaves free at the end of a text or of choices what would show a part of a line alone, as long as there is more than can be seen. */
+function keepLines(box) {
+    const isLong = box.scrollHeight > box.clientHeight + 1;
+    const room = box.getBoundingClientRect();
+    const free = isLong ? Math.ceil(cutBelow(room, linesIn(box))) : 0;
+    const isKept = free > 1 && free < room.height / 2;
+    box.classList.toggle("kept", isKept);
+    box.style.borderBottomWidth = isKept ? `${free}px` : "";
+}
+
 /** Leaves free at the end of a scrolled box what would show a part of a row alone. Gives what is called when its rows have changed. */
 export function keepWhole(box, body) {
     const set = () => {
-        const { bottom, height: room } = box.getBoundingClientRect();
-        const cut = [...body.children].map((row) => row.getBoundingClientRect()).find(
-            ({ top, bottom: end }) => top < bottom && end > bottom + 1
-        );
+        const room = box.getBoundingClientRect();
         // an edge has whole pixels: one more would cut the row above it
-        const free = cut === undefined ? 0 : Math.floor(bottom - cut.top);
-        if (room > 0 && free < room / 2) box.style.borderBottom = `${free}px solid var(--unseen, transparent)`;
+        const free = Math.floor(cutBelow(room, [...body.children].map((row) => row.getBoundingClientRect())));
+        if (room.height > 0 && free < room.height / 2) box.style.borderBottom = `${free}px solid var(--unseen, transparent)`;
     };
     new ResizeObserver(set).observe(box, { box: "border-box" });
     box.addEventListener("scroll", set, { passive: true });

@@ -137,7 +137,10 @@ const printedPage = (rows, title, word) => `<style>body { font: 12pt/1.35 monosp
 );
 const escaped = (text) => text.replaceAll("&", "&amp;").replaceAll("<", "&lt;");
 
-/** The paper pulled up. `pieces` are those torn off, `print` prints a page, and `changed` is called when a piece was torn off. */
+/**
+ * The paper pulled up. `pieces` are those torn off, `print` prints a page, `changed` is called when a piece was torn off, and `goToRow`
+ * goes to the order that printed a row.
+ */
 class Sheet {
     node;
     control;
@@ -260,16 +263,29 @@ class Sheet {
         );
         showLive(again, isLive);
         const typing = keys.length === 0 ? [] : [struck(keys, this.#texts)];
+        const isHere = view === this.#sides[1].view && this.#pieceOf(1) === null && !row.isTyped;
+        const order = button(text("toItsOrder"), () => this.#goTo(row), { id: "to-its-order" });
         view.lay(
             h(
                 "div",
                 { class: "row-open" },
-                h("div", { class: "line" }, ...(keys.length === 0 ? [] : [again]), button(text("copy"), () => this.#copy([row]))),
+                h(
+                    "div",
+                    { class: "line" },
+                    ...(keys.length === 0 ? [] : [again]), ...(isHere ? [order] : []), button(text("copy"), () => this.#copy([row]))
+                ),
                 ...typing,
                 isLive ? null : h("p", {}, text("notWaiting"))
             )
         );
         this.#opened = { view, isLive };
+    }
+
+    /** Lets the paper down and goes to the order that printed a row. */
+    #goTo({ returns }) {
+        const torn = this.#laboratory.printed.text.slice(0, this.#pieces.all.torn);
+        this.toggle(false);
+        return this.#actions.goToRow(returns + torn.split("\n").length - 1);
     }
 
     /** Types numbers one after another: after each but the last the machine runs until it waits for the next. */

@@ -52,10 +52,10 @@ const besideOf = (laboratory, state) => (line) => {
             places: h(
                 "span",
                 { class: isChanged ? "place changed" : "place" },
-                h("b", {}, word.place),
-                h("span", { class: "digits" }, ` ${digits}`)
+                h("b", { "data-shown": word.place }),
+                h("span", { class: "digits", "data-shown": ` ${digits}` })
             ),
-            stops: isStop ? h("span", { class: "stop" }, "●") : null,
+            stops: isStop ? h("span", { class: "stop", "data-shown": "●" }) : null,
         },
     ];
 };

@@ -3,13 +3,17 @@ import { button, guarded, h, part, showLive, tell } from "./dom.mjs";
 
 /**
  * The stories: the example that each opens, how many of its orders are done before, and how many each caption plays; the last one may let
- * it run.
+ * it run. `back` has how many are gone back over after a caption, and as many captions as `prints` says have the paper seen.
  */
 export const TALES = [
     { name: "wait", example: "self-modifying", before: 0, plays: [1, 1, 1, 1, 0] },
     { name: "rewrite", example: "self-modifying", before: 9, plays: [0, 1, 1, 1, 0] },
-    { name: "type", example: "message", before: 2, plays: [0, 3, 1, 3, 0], runs: true },
+    { name: "type", example: "message", before: 2, plays: [0, 3, 1, 3, 0], runs: true, prints: 5 },
     { name: "who", example: "self-modifying", before: 11, plays: [0, 1, 0, 0, 0], asks: [3, "0009"] },
+    {
+        name: "rewind", example: "finding-mistakes/wrong-row", before: 32, plays: [0, 1, 0, 1, 0], back: [12, 8, 6], asks: [2, "0012"],
+        prints: 3,
+    },
 ];
 
 /** Where a viewer is: the story, or null, its caption, and after how many orders it begins. It outlasts a change of the language. */
@@ -35,7 +39,10 @@ export function makeTales(laboratory, { text, table }, drive, { open, viewer, to
         button(text("captionNext"), next, { id: "caption-next" }),
     ];
     const choices = TALES.map((it) => button(table.tales[it.name].title, () => begin(it), { "data-tale": it.name }));
-    const orders = (count) => viewer.tale.plays.slice(0, count).reduce((sum, plays) => sum + plays, viewer.first);
+    const orders = (count) => {
+        const { plays, back = [] } = viewer.tale;
+        return plays.slice(0, count).reduce((sum, played, at) => sum + played - (back[at] ?? 0), viewer.first);
+    };
     /** Goes to a place, and waits for what leads there. Whether nothing else was asked for meanwhile. */
     const turnTo = async (tale, at, action) => {
         round += 1;
@@ -83,6 +90,7 @@ export function makeTales(laboratory, { text, table }, drive, { open, viewer, to
         const { tale, at } = viewer;
         for (const control of choices) control.setAttribute("aria-pressed", String(control.dataset.tale === tale?.name));
         caption.dataset.story = tale?.name ?? "";
+        caption.toggleAttribute("data-prints", at < (tale?.prints ?? 0));
         tell(caption, tale === null ? text("chooseTale") : isOpening ? "" : table.tales[tale.name].captions[at]);
         for (const control of [place, backOne, nextOne]) control.hidden = tale === null;
         if (tale === null) return;

@@ -1,5 +1,5 @@
 // The time line: the told orders one after another, as wide as their word times; what was not told is one bar between them, which leaves
-// them most of the line.
+// them most of the line. After them, paler, what was gone back over; and above them marks, each where the slider is at its place.
 import { PHASES } from "../player.mjs";
 import { h } from "./dom.mjs";
 import { rewrittenBy } from "./says.mjs";
@@ -45,8 +45,14 @@ export function placed(bars, width, isCounted = true) {
     });
 }
 
+/** How wide the slider's thumb is, and how pale what was gone back over. */
+const [THUMB, LATER] = [10, 0.5];
+
+/** Where a place of so many orders is on a line of this width: in the middle of the slider's thumb. */
+export const xOf = (place, orders, width) => THUMB / 2 + (orders === 0 ? 1 : place / orders) * (width - THUMB);
+
 /** How many of the orders that can be counted were not told: those before the told ones. */
-export const untoldOf = ({ history: { behind, forgotten } }, told) => Math.max(0, behind + forgotten - told);
+export const untoldOf = ({ history: { behind } }, told) => Math.max(0, behind - told);
 
 /** Draws a bar as dashes. */
 function dashes(pen, { from, width }) {
@@ -62,6 +68,28 @@ function name(pen, { from, width }, text, colour) {
     pen.fillText(text, from + width / 2, BARS.middle);
 }
 
+/** Draws what was gone back over, and the marks. */
+function drawWay(pen, { behind, ahead, marks }, width, colours) {
+    const at = (place) => xOf(place, behind + ahead, width);
+    Object.assign(pen, { fillStyle: colours.untold, globalAlpha: LATER });
+    if (ahead > 0) pen.fillRect(at(behind), BARS.middle - BARS.wait / 2, width - at(behind), BARS.wait);
+    pen.globalAlpha = 1;
+    for (const { place, kind } of marks) {
+        pen.fillStyle = colours[kind];
+        pen.fillRect(Math.round(at(place)) - 1, 0, 2, BARS.mark);
+    }
+}
+
+/** The colours and the font of the picture, by what they are of. */
+function coloursAt(node) {
+    const named = (name) => getComputedStyle(node).getPropertyValue(name);
+    return {
+        ink: named("--ink"), font: `11px ${named("--labels")}`, find: named("--find"), take: named("--take"), seek: named("--seek"),
+        act: named("--act"), rewritten: named("--write"), untold: named("--hair"),
+        row: named("--ink"), watch: named("--write"), stop: named("--seek"), hand: named("--soft"),
+    };
+}
+
 /** The picture of the time line on a canvas; `nameOf` gives the text for a number of orders that were not told. */
 export function makeTimeline(laboratory, { isFast }, nameOf) {
     const node = h("canvas", { class: "timeline", "aria-hidden": "true", height: HEIGHT });
@@ -70,7 +98,8 @@ export function makeTimeline(laboratory, { isFast }, nameOf) {
         const [pen, { panel }] = [node.getContext("2d"), laboratory];
         const accounts = isFast() ? [] : laboratory.accounts;
         const [bars, untold] = [barsOf(accounts, panel.clock), untoldOf(laboratory, accounts.length)];
-        const drawn = placed(bars, node.width, untold > 0);
+        const { behind, ahead, marks } = laboratory.history;
+        const drawn = placed(bars, ahead === 0 ? node.width : xOf(behind, behind + ahead, node.width), untold > 0);
         pen.clearRect(0, 0, node.width, HEIGHT);
         for (const bar of drawn) {
             const { kind, from, width } = bar;
@@ -81,19 +110,18 @@ export function makeTimeline(laboratory, { isFast }, nameOf) {
         }
         Object.assign(pen, { font: colours.font, textAlign: "center", textBaseline: "middle" });
         if (untold > 0 && drawn[0]?.kind === "untold") name(pen, drawn[0], nameOf(untold), colours.ink);
-        Object.assign(node.dataset, { bars: bars.map(({ kind }) => kind[0]).join(""), untold });
+        drawWay(pen, laboratory.history, node.width, colours);
+        const namesOf = (some) => some.map(({ kind }) => kind[0]).join("");
+        Object.assign(node.dataset, { marks: namesOf(marks), later: ahead, bars: namesOf(bars), untold });
     };
     new ResizeObserver(([{ contentRect: { width } }]) => {
         node.width = Math.round(width);
-        const named = (name) => getComputedStyle(node).getPropertyValue(name);
-        colours = {
-            ink: named("--ink"), font: `11px ${named("--labels")}`, find: named("--find"), take: named("--take"), seek: named("--seek"),
-            act: named("--act"), rewritten: named("--write"), untold: named("--hair"),
-        };
+        colours = coloursAt(node);
         draw();
     }).observe(node);
     const show = () => {
-        const key = `${laboratory.panel.clock} ${laboratory.accounts.length} ${isFast()}`;
+        const { history: { ahead, marks }, panel, accounts } = laboratory;
+        const key = `${panel.clock} ${accounts.length} ${ahead} ${marks.length} ${isFast()}`;
         if (key !== shown) draw();
         shown = key;
     };

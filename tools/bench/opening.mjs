@@ -1,9 +1,8 @@
 // How long unpacking the page takes in node, in processor time, the best of some turns. How long the page takes to open in Chromium, from
 // the
 // beginning of its navigation: until something is painted, until its door can be used, and what of that is unpacking, the median of some
-// openings;
-// other work on the machine makes these times longer. And how much memory the kiosk holds after some rounds of an exhibit, and after many
-// more.
+// openings, and the best; other work on the machine makes these times longer. And how much memory the kiosk holds after some rounds of an
+// exhibit, and after many more.
 // No part of the check.
 //
 //     node tools/bench/opening.mjs [page/laboratory.html]
@@ -11,6 +10,7 @@ import { readFileSync } from "node:fs";
 import { dirname, join, resolve } from "node:path";
 import { fileURLToPath, pathToFileURL } from "node:url";
 import { Chromium } from "../../page/tests/chromium.mjs";
+import { unsorted } from "../../page/sorted.mjs";
 import { unpacked } from "../../page/unpacked.mjs";
 
 const top = join(dirname(fileURLToPath(import.meta.url)), "../..");
@@ -27,26 +27,31 @@ function noteTimes() {
     globalThis.unpacking = 0;
     let unpack;
     const timed = (text) => {
-        const began = performance.now();
-        const bytes = unpack(text);
-        globalThis.unpacking += performance.now() - began;
-        return bytes;
+        const texts = unpack(text);
+        const next = texts.next.bind(texts);
+        texts.next = () => {
+            const began = performance.now();
+            const found = next();
+            globalThis.unpacking += performance.now() - began;
+            return found;
+        };
+        return texts;
     };
-    Object.defineProperty(globalThis, "unpackedText", { get: () => timed, set: (it) => { unpack = it; } });
+    Object.defineProperty(globalThis, "unpackedTexts", { get: () => timed, set: (it) => { unpack = it; } });
     const look = () => { if (document.documentElement?.dataset.ready === "true") globalThis.usable ??= performance.now(); };
     new MutationObserver(look).observe(document, { attributes: true, subtree: true });
 }
 
 const median = (numbers) => numbers.sort((one, other) => one - other)[numbers.length >> 1];
 
-/** The times of a door, in milliseconds. */
+/** The times of a door, in milliseconds: each time's median and its best. */
 async function opened(browser, query) {
     const times = [];
     for (let opening = 0; opening < OPENINGS; opening += 1) {
         await browser.open(address.concat(query), "globalThis.usable !== undefined && performance.getEntriesByType('paint').length > 0");
         times.push(await browser.value("[performance.getEntriesByType('paint')[0].startTime, usable, unpacking]"));
     }
-    return [0, 1, 2].map((place) => Math.round(median(times.map((it) => it[place]))));
+    return [median, (all) => Math.min(...all)].map((of) => [0, 1, 2].map((place) => Math.round(of(times.map((it) => it[place])))));
 }
 
 /** What the heap of the page holds when all is collected that is not used, in megabytes. */
@@ -73,22 +78,25 @@ async function heapOfKiosk(browser) {
     return heaps;
 }
 
-/** The processor time of unpacking a text once, in milliseconds. */
-function unpackedIn(text) {
+/** The processor time of unpacking a part of the page once, in milliseconds; of the module, of sorting it back as well. */
+function unpackedIn(part, text) {
     const before = process.cpuUsage();
-    unpacked(text);
+    const bytes = unpacked(text);
+    if (part === "module") unsorted(bytes);
     return process.cpuUsage(before).user / 1000;
 }
 
-for (const [, name, text] of readFileSync(file, "utf8").matchAll(/id="(parts|texts|module)">(\d+ [^<]+)</g)) {
-    const best = Math.min(...Array.from({ length: TURNS }, () => unpackedIn(text)));
+for (const [, name, text] of readFileSync(file, "utf8").matchAll(/id="(parts|module)">(\d+ [^<]+)</g)) {
+    const best = Math.min(...Array.from({ length: TURNS }, () => unpackedIn(name, text)));
     console.log(`${name}: unpacked in ${Math.round(best)} ms of processor time`);
 }
 const browser = await Chromium.start(1366, 768);
 await browser.preload(`(${noteTimes})()`);
 for (const [name, query] of DOORS) {
-    const [painted, usable, unpacking] = await opened(browser, query);
-    console.log(`${name}: painted after ${painted} ms, usable after ${usable}, of which unpacking ${unpacking}`);
+    const [usual, best] = (await opened(browser, query)).map(
+        ([painted, usable, unpacking]) => `painted after ${painted} ms, usable after ${usable}, of which unpacking ${unpacking}`
+    );
+    console.log(`${name}: ${usual}; at best ${best}`);
 }
 const [before, after] = await heapOfKiosk(browser);
 console.log(`the kiosk's heap: ${before} MB after ${ROUNDS / 6} rounds, ${after} after ${ROUNDS} more`);
