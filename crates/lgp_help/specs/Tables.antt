@@ -2,9 +2,9 @@
 -- is a text of the code, a row on each line, with a bar between two columns; what its words are, no
 -- clause says a second time.
 use Rattle.std.specs.Prelude.{ℕ, ◌==◌, Bool, if◌then◌else◌, List, [], ◌∷◌, ◌++◌}
-use Rattle.std.specs.Prelude.{drop, length, map, take}
+use Rattle.std.specs.Prelude.{codes, drop, length, map, take}
 use Rattle.std.specs.List.{position_or_len}
-use Rattle.std.specs.Str.{byte}
+use Rattle.std.specs.Str.{byte, bytes_eq}
 use Rattle.bstr.specs.Text.{lines_of, without_terminator}
 use Rattle.lgp_fields.specs.Plain.{Plain, PlainField, Nothing, Text, field}
 use Rattle.lgp_fields.specs.Printed.{record_in}
@@ -65,3 +65,19 @@ operations_text form = table_text form OPERATION_KEYS OPERATIONS
 
 unfoldable pub faults_text : RecordForm → List ℕ
 faults_text form = table_text form FAULT_KEYS FAULTS
+
+-- ---- a sentence on a kind of fault
+
+-- of a row of the table of faults: what is wrong, and what would be right
+abbrev pub row_said : List ℕ → List ℕ
+row_said row =
+    first_column (other_columns (after_two row)) ++ (codes ": " ++ first_column (after_four row))
+
+-- the same of the first row that has this name
+unfoldable pub said_in : List ℕ → List (List ℕ) → List ℕ
+said_in name [] = []
+said_in name (row ∷ more) =
+    if bytes_eq (first_column row) name then row_said row else said_in name more
+
+unfoldable pub fault_said : List ℕ → List ℕ
+fault_said name = said_in name (map without_terminator (lines_of FAULTS))

@@ -5,7 +5,7 @@ ghost use Rattle.bstr.specs.Text.{lines_of, without_terminator};
 ghost use Rattle.std.specs.List.{position, position_or_len};
 ghost use Rattle.lgp_fields.specs.Printed.{record_in};
 ghost use Rattle.lgp_fields.specs.Seen.{value_seen};
-ghost use Rattle.lgp_help.specs.Tables.{column_value, commands_text, faults_text, first_column, is_bar, operations_text, other_columns, row_fields, rows_text, table_text};
+ghost use Rattle.lgp_help.specs.Tables.{column_value, commands_text, fault_said, faults_text, first_column, is_bar, operations_text, other_columns, row_fields, row_said, rows_text, said_in, table_text};
 
 use crate::tables::{COMMAND_KEYS, COMMANDS, FAULT_KEYS, FAULTS, OPERATION_KEYS, OPERATIONS};
 use bstr::ByteSlice;
@@ -139,4 +139,40 @@ pub fn push_faults<A: Allocator>(text: &mut Vec<u8, A>, form: RecordForm) -> Res
     ensures { OnOk result (text.new.items ≡ text.old.items ++ faults_text form) }
 {
     push_rows(text, form, &FAULT_KEYS, &FAULTS)
+}
+
+/// Appends what is wrong and what would be right, by a row of the table of faults.
+fn push_row_said<A: Allocator>(text: &mut Vec<u8, A>, row: &[u8]) -> Result<(), AllocError>
+    ensures { OnOk result (text.new.items ≡ text.old.items ++ row_said row.now) }
+{
+    let wrong = columns_of(columns_of(columns_of(columns_of(row).others).others).others);
+    text.extend_from_slice(wrong.first)?;
+    text.extend_from_slice(b": ")?;
+    text.extend_from_slice(columns_of(wrong.others).first)
+}
+
+/// Appends the same by the first of some rows that has this name.
+#[tactic(auto, unfolding(crate::specs::Tables::said_in))]
+fn push_said_in<A: Allocator>(
+    text: &mut Vec<u8, A>,
+    rows: &[u8],
+    name: &[u8],
+) -> Result<(), AllocError>
+    ensures { OnOk result (text.new.items ≡ text.old.items
+        ++ said_in name.now (map without_terminator (lines_of rows.now))) }
+{
+    for row in rows.lines() {
+        if columns_of(row).first == name {
+            return push_row_said(text, row);
+        }
+    }
+    Ok(())
+}
+
+/// Appends what is wrong where a source has a kind of fault, and what would be right; nothing if no kind has this name.
+#[tactic(auto, unfolding(crate::specs::Tables::fault_said))]
+pub fn push_fault_said<A: Allocator>(text: &mut Vec<u8, A>, name: &[u8]) -> Result<(), AllocError>
+    ensures { OnOk result (text.new.items ≡ text.old.items ++ fault_said name.now) }
+{
+    push_said_in(text, &FAULTS, name)
 }
