@@ -308,7 +308,7 @@ static LINES_AND_SOURCES: [Row; 10] = [
     (
         Manner::Prompting,
         b"do opening\n end start\n.\n",
-        b"0000 halted operator> source> source> ? 9 Faults\nline 1 UnknownOrder\n         start z\n         ^^^^^\nline 2 UnknownName\n         end start\n             ^^^^^\n0000 halted operator> \n",
+        b"0000 halted operator> source> source> ? 9 Faults\nline 1 UnknownOrder\n         start z\n         ^^^^^\n        there is no such operation: write one of the sixteen letters, -t, word, frac, int, org or end\nline 2 UnknownName\n         end start\n             ^^^^^\n        no line has this label: check the spelling, or give a line this label\n0000 halted operator> \n",
         true,
     ),
     (
@@ -321,7 +321,7 @@ static LINES_AND_SOURCES: [Row; 10] = [
     (
         Manner::Bare,
         b"do naming\nsource faulty\n",
-        b"? 1 Form: there is no such command; help lists them all\n        line 1 of naming\ncells 1 start 0000\n? 1 Form: line 1 is not a line of a dump\n        torn, line 3 of naming\n? 13 File torn: the byte at place 2, counting from 0, in line 1, does not begin a tape sign\n        line 4 of naming\nok 3\n? 9 Faults\nline 1 UnknownOrder\n         foo\n         ^^^\nline 2 NoEnd\n        faulty, line 6 of naming\n? 1 Form: there is no such command; help lists them all\n        line 7 of naming\n? 9 Faults\nline 1 UnknownOrder\n         foo\n         ^^^\nline 2 NoEnd\n        faulty\n",
+        b"? 1 Form: there is no such command; help lists them all\n        line 1 of naming\ncells 1 start 0000\n? 1 Form: line 1 is not a line of a dump\n        torn, line 3 of naming\n? 13 File torn: the byte at place 2, counting from 0, in line 1, does not begin a tape sign\n        line 4 of naming\nok 3\n? 9 Faults\nline 1 UnknownOrder\n         foo\n         ^^^\n        there is no such operation: write one of the sixteen letters, -t, word, frac, int, org or end\nline 2 NoEnd\n        the end line is missing: end with a line that has end and the label of the first order\n        faulty, line 6 of naming\n? 1 Form: there is no such command; help lists them all\n        line 7 of naming\n? 9 Faults\nline 1 UnknownOrder\n         foo\n         ^^^\n        there is no such operation: write one of the sixteen letters, -t, word, frac, int, org or end\nline 2 NoEnd\n        the end line is missing: end with a line that has end and the label of the first order\n        faulty\n",
         true,
     ),
 ];

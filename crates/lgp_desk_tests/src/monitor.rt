@@ -23,7 +23,7 @@ static ROWS: [Row; 4] = [
     // source from before stays.
     (
         b"source\nold z\n end\n.\nsource\nstart b none\n\n q 0100 ; no such order\r\nstart\tz\n end\n.\nlabels\ntranscript\n",
-        b"cells 1 start none\n? 9 Faults\nline 1 UnknownName\n        start b none\n                ^^^^\nline 3 UnknownOrder\n         q 0100 ; no such order\n         ^\nline 4 LabelTwice\n        start\tz\n        ^^^^^\nold 0000\nsource\nold z\n end\n.\nsource\nstart b none\n\n q 0100 ; no such order\nstart\tz\n end\n.\n",
+        b"cells 1 start none\n? 9 Faults\nline 1 UnknownName\n        start b none\n                ^^^^\n        no line has this label: check the spelling, or give a line this label\nline 3 UnknownOrder\n         q 0100 ; no such order\n         ^\n        there is no such operation: write one of the sixteen letters, -t, word, frac, int, org or end\nline 4 LabelTwice\n        start\tz\n        ^^^^^\n        an earlier line has the same label: give one of the two lines a different label\nold 0000\nsource\nold z\n end\n.\nsource\nstart b none\n\n q 0100 ; no such order\nstart\tz\n end\n.\n",
         1,
     ),
     // No order, one that a rule stops after, one before rest, and none at rest. The transcript has one space before each operand.
@@ -102,7 +102,8 @@ const TOO_LONG: [u8; 4097] = [b' '; 4097];
 
 #[test]
 fn a_source_that_is_too_long_has_no_marks(rt: HostRuntime) {
-    let marked = b"? 9 Faults\nline 1 UnknownOrder\n         q\n         ^\nline 3 NoEnd\n";
+    let marked =
+        b"? 9 Faults\nline 1 UnknownOrder\n         q\n         ^\n        there is no such operation: write one of the sixteen letters, -t, word, frac, int, org or end\nline 3 NoEnd\n        the end line is missing: end with a line that has end and the label of the first order\n";
     let refused = b"? 11 TooLong: a line may have at most 4096 bytes, a source at most 1048576\n";
     let answered = [
         is_marked(rt.alloc(), &LONGEST, marked),

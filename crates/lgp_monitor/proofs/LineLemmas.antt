@@ -150,11 +150,11 @@ free-meaning recorded (entry.Script command) line free = (one_line command _ (fr
 free-meaning recorded (entry.Go address) line free = free-go _
 free-meaning recorded (entry.Reported telling limit) line free = (free-run limit, tt)
 free-meaning recorded (entry.Operate limit) line free = free-operated limit recorded.state
-free-meaning recorded (entry.Until condition limit) line free = (free-run (orders_done condition limit recorded.state), tt)
+free-meaning recorded (entry.Until until limit) line free = (free-run (orders_done until limit recorded.state), tt)
 free-meaning recorded (entry.Asked question) line free = tt
 free-meaning recorded entry.Transcript line free = tt
 free-meaning recorded entry.New line free = tt
-free-meaning recorded (entry.To way) line free = free-way recorded (order_of_way recorded way)
+free-meaning recorded (entry.To way form) line free = free-way recorded (order_of_way recorded way)
 free-meaning recorded entry.Help line free = tt
 free-meaning recorded (entry.HelpOf verb) line free = tt
 

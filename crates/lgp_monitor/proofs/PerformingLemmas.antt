@@ -21,9 +21,9 @@ use Rattle.lgp_script.proofs.OpenedLaws.{opened_stays}
 use Rattle.lgp_script.specs.UntilReply.{IsRepliedUntil}
 use Rattle.lgp_script.specs.declared.until_reply.UntilReply.{UntilReply}
 use Rattle.lgp_when.specs.Until.{is_done}
-use Rattle.lgp_when.specs.declared.condition.Condition.{Condition}
+use Rattle.lgp_when.specs.declared.until.Until.{Until}
 use Rattle.lgp_monitor.specs.Monitor.{answer_to_until, explained_command, told_run}
-use Rattle.lgp_monitor.specs.Untils.{is_met, met_text, once, orders_done, replied_until}
+use Rattle.lgp_monitor.specs.Untils.{is_met, met_text, orders_done, replied_until}
 use Rattle.lgp_monitor.specs.Operating.{run_line}
 use Rattle.lgp_monitor.specs.PerformingInside.{IsPerformed}
 use Rattle.lgp_monitor.specs.Reasons.{explained_text, run_end_text}
@@ -133,23 +133,23 @@ kept_after r₀ r₁ r₂ s₁ orders outside sayable left lent kept =
     (kept ∙ ap (λ (r : Recorded LabState). with_line r line) lent)).kept
 
 -- a run that ends with the order that meets a condition
-pub until_line : (r₀ r₁ r₂ : Recorded LabState) (s s₁ : LabState) (condition : Condition) (limit number orders : ℕ) (done : UntilReply) (before middle after : List ℕ)
-    → r₀.state.opened ≡ None → IsSayable (commands.Run orders) → number ≡ limit → IsRepliedUntil (once condition) number r₀.state s₁ done → orders ≡ done.orders
+pub until_line : (r₀ r₁ r₂ : Recorded LabState) (s s₁ : LabState) (until : Until) (limit number orders : ℕ) (done : UntilReply) (before middle after : List ℕ)
+    → r₀.state.opened ≡ None → IsSayable (commands.Run orders) → number ≡ limit → IsRepliedUntil until number r₀.state s₁ done → orders ≡ done.orders
     → r₁ ≡ with_state r₀ s₁ → r₂ ≡ with_line r₁ (command_text (commands.Run orders) []) → s ≡ r₂.state
     → middle ≡ before ++ explained_text s done.reply → after ≡ middle ++ met_text done.is_met
-    → IsAnswered before after r₂ (answer_to_until r₀ condition limit)
-until_line r₀ r₁ r₂ s s₁ condition limit number orders done before middle after outside sayable same is counted lent kept seen printed met =
-    let so : IsRepliedUntil (once condition) limit r₀.state s₁ done = subst (λ (n : ℕ). IsRepliedUntil (once condition) n r₀.state s₁ done) same is in
-    let replied : Replied = replied_until condition limit r₀.state in
-    let count : orders ≡ orders_done condition limit r₀.state = counted ∙ so.orders in
+    → IsAnswered before after r₂ (answer_to_until r₀ until limit)
+until_line r₀ r₁ r₂ s s₁ until limit number orders done before middle after outside sayable same is counted lent kept seen printed met =
+    let so : IsRepliedUntil until limit r₀.state s₁ done = subst (λ (n : ℕ). IsRepliedUntil until n r₀.state s₁ done) same is in
+    let replied : Replied = replied_until until limit r₀.state in
+    let count : orders ≡ orders_done until limit r₀.state = counted ∙ so.orders in
     let state : s ≡ replied.after = seen ∙ ap (λ (r : Recorded LabState). r.state) (kept ∙ ap (λ (r : Recorded LabState). with_line r (command_text (commands.Run orders) [])) lent) ∙ so.replied.after in
-    let word : met_text done.is_met ≡ met_text (is_met condition limit r₀.state) = ap met_text (so.met ∙ ap (λ (n : ℕ). is_done (once condition) r₀.state.debugger.state n) so.orders) in
+    let word : met_text done.is_met ≡ met_text (is_met until limit r₀.state) = ap met_text (so.met ∙ ap (λ (n : ℕ). is_done until r₀.state.debugger.state n) so.orders) in
     record {
       reply = met ∙ (ap (λ (t : List ℕ). t ++ met_text done.is_met) printed
           ∙ (append_assoc before (explained_text s done.reply) (met_text done.is_met)
           ∙ (ap (λ (t : List ℕ). before ++ (explained_text s done.reply ++ t)) word
-          ∙ (ap (λ (t : LabState). before ++ (explained_text t done.reply ++ met_text (is_met condition limit r₀.state))) state
-          ∙ ap (λ (r : Reply). before ++ (explained_text replied.after r ++ met_text (is_met condition limit r₀.state))) so.replied.reply))));
+          ∙ (ap (λ (t : LabState). before ++ (explained_text t done.reply ++ met_text (is_met until limit r₀.state))) state
+          ∙ ap (λ (r : Reply). before ++ (explained_text replied.after r ++ met_text (is_met until limit r₀.state))) so.replied.reply))));
       after = kept_after r₀ r₁ r₂ s₁ orders outside sayable (so.again ∙ ap (λ (n : ℕ). (replied_to_run r₀.state n).after) (sym counted)) lent kept
           ∙ ap (λ (n : ℕ). after_lines script_language r₀ (run_line n ∷ [])) count;
     }

@@ -1,5 +1,5 @@
 -- Part of the public promise: what is answered where a point closes a source with faults: each
--- fault with its line of the source and a mark below the part that is at fault.
+-- fault with its line of the source, a mark below the part that is at fault, and a sentence.
 use Rattle.std.specs.Prelude.{ℕ, ◌-◌, Bool, false, not, ◌&&◌, ◌||◌, ◌==◌, if◌then◌else◌, Option, Some, None}
 use Rattle.std.specs.Prelude.{option_map, List, [], ◌++◌, codes, flat_map, length, slice_get}
 use Rattle.std.specs.Option.{option_map_or}
@@ -7,7 +7,10 @@ use Rattle.std.specs.Str.{bytes_eq}
 use Rattle.lgp_source.specs.Source.{SourceLine, lines_of}
 use Rattle.lgp_assembler.specs.Image.{faults_of}
 use Rattle.lgp_assembler.specs.declared.refusal.Fault.{Fault}
-use Rattle.lgp_assembler.specs.Marks.{marked_text}
+use Rattle.lgp_assembler.specs.declared.refusal.FaultKind.{FaultKind}
+use Rattle.lgp_assembler.specs.KindNames.{kind_name}
+use Rattle.lgp_assembler.specs.Marks.{indent, marked_text}
+use Rattle.lgp_help.specs.Tables.{fault_said}
 use Rattle.lgp_stream.specs.KeptLine.{Kept}
 use Rattle.lgp_script.specs.SourceCommands.{fault_line}
 use Rattle.lgp_script.specs.SourceText.{SourceText}
@@ -19,10 +22,16 @@ use Rattle.lgp_monitor.specs.Reasons.{refused_text}
 abbrev pub text_at : List SourceLine → ℕ → Option (List ℕ)
 text_at lines place = option_map (λ (line : SourceLine). line.text) (slice_get lines place)
 
--- a fault of a source of these lines: its line as scripts have it, and its marked line
+-- what is wrong where a source has a kind of fault, and what would be right
+unfoldable pub said_line : FaultKind → List ℕ
+said_line kind = indent ++ (fault_said (kind_name kind) ++ codes "\n")
+
+-- a fault of a source of these lines: its line as scripts have it, its marked line, and a sentence
 unfoldable pub marked_fault : List SourceLine → Fault → List ℕ
 marked_fault lines fault =
-    fault_line fault ++ option_map_or (marked_text fault.kind) (text_at lines (fault.line - 1)) []
+    fault_line fault
+    ++ (option_map_or (marked_text fault.kind) (text_at lines (fault.line - 1)) []
+    ++ said_line fault.kind)
 
 -- the reply to the end of a source, if it has faults; a source that is empty has no line to show,
 -- and of one that is too long nothing is kept

@@ -20,6 +20,7 @@ use Rattle.lgp_fields.specs.declared.records.RecordForm.{RecordForm}
 use Rattle.lgp_fields.specs.declared.records.RecordForm.TheVariants.{Lines, Objects}
 use Rattle.lgp_when.specs.declared.condition.Condition.{Condition}
 use Rattle.lgp_when.specs.declared.condition.Condition.TheVariants as conditions
+use Rattle.lgp_when.specs.declared.until.Until.{Until}
 use Rattle.lgp_monitor.specs.Scaled.{point_of}
 use Rattle.lgp_monitor.specs.Mistakes.{address_mistake, takes_numbers, takes_place, value_mistake}
 use Rattle.lgp_monitor.specs.Verbs.{verb_names}
@@ -45,7 +46,7 @@ use Rattle.lgp_monitor.specs.declared.verb.Verb.{Verb}
 use Rattle.lgp_monitor.specs.declared.verb.Verb.TheVariants as verbs
 use Rattle.lgp_monitor.specs.declared.mistake.Mistake.TheVariants as mistakes
 use Rattle.lgp_monitor.specs.declared.wrong.LineWord.{LineWord}
-use Rattle.lgp_monitor.specs.declared.wrong.LineWord.TheVariants.{First, Second, Third}
+use Rattle.lgp_monitor.specs.declared.wrong.LineWord.TheVariants.{First, Second, Third, Fifth}
 use Rattle.lgp_monitor.specs.declared.way.Way.TheVariants.{Order, Sought}
 use Rattle.lgp_moment.specs.declared.search.Which.{Which}
 use Rattle.lgp_moment.specs.declared.search.Which.TheVariants as whiches
@@ -239,6 +240,7 @@ is_data question = false
 abbrev pub is_for_programs : Entry → Bool
 is_for_programs (entry.Asked question) = is_data question
 is_for_programs (entry.Reported telling limit) = is_records (form_of telling)
+is_for_programs (entry.To way form) = true
 is_for_programs asked = false
 
 -- whether it has objects of JSON
@@ -249,6 +251,7 @@ is_objects report = false
 abbrev pub has_objects : Entry → Bool
 has_objects (entry.Asked (questions.Data question Objects)) = true
 has_objects (entry.Reported telling limit) = is_objects (form_of telling)
+has_objects (entry.To way Objects) = true
 has_objects asked = false
 
 -- what is asked for, with a reply for programs as objects of JSON
@@ -271,6 +274,7 @@ question_as_objects question = question
 abbrev pub as_objects : Entry → Entry
 as_objects (entry.Asked question) = entry.Asked (question_as_objects question)
 as_objects (entry.Reported telling limit) = entry.Reported (telling_as_objects telling) limit
+as_objects (entry.To way form) = entry.To way Objects
 as_objects asked = asked
 
 -- what is asked for with replies for programs in a form
@@ -293,6 +297,10 @@ asked_as_objects line (Ok asked) =
 asked_as_objects line (Err wrong) =
     if has_no_word line || is_some (command_of line) then asked_by (Err (Operands verbs.Line))
     else entry.Misformed parts.AfterName wrong
+
+-- whether the second word is `times`, after a number
+abbrev pub is_times : List ℕ → Bool
+is_times operands = bytes_eq (first_word (after_word operands)) (codes "times")
 
 -- the number after the name of a condition
 abbrev pub counted_by : Verb → List ℕ → Result ℕ Wrong
@@ -355,8 +363,8 @@ module _ (names : List (List ℕ × ℕ)) (counter : ℕ) where
       (if has_no_word (after_word operands) then Some (conditions.Changed place) else None))
       (first_address names counter verb which operands)
 
-  -- a condition that a command names, of which this is the first word: so many codes or rows
-  -- printed, so many word times over, a word changed, or one on the machine at an address
+  -- a condition that a command names, of which this is the first word: a number of codes or rows
+  -- printed, of word times over, a word changed, or one on the machine at an address
   unfoldable pub condition_at : Verb → LineWord → List ℕ → Result Condition Wrong
   condition_at verb which operands =
       if is_counted (codes "printed") operands
@@ -370,20 +378,29 @@ module _ (names : List (List ℕ × ℕ)) (counter : ℕ) where
       else and_then (λ place. read_of verb (condition_of names place (after_word operands)))
       (first_address names counter verb which operands))))
 
-  -- a run that ends with the order that meets a condition
+  -- what a run waits for: a condition met once, or as many times as are named before it
+  abbrev pub until_at : List ℕ → Result Until Wrong
+  until_at operands =
+      if is_times operands
+      then and_then (λ times. and_then (λ condition. Ok (record { condition = condition; times = times }))
+      (condition_at verbs.Run Fifth (after_word (after_word operands))))
+      (read_of verbs.Run (lone_number (first_word operands)))
+      else and_then (λ condition. Ok (record { condition = condition; times = 1 }))
+      (condition_at verbs.Run Third operands)
+
+  -- a run that ends with the order that meets a condition for the last of these times
   unfoldable pub run_entry : List ℕ → Result Entry Wrong
   run_entry operands =
       let until = after_word operands in
       and_then (λ limit. if bytes_eq (first_word until) (codes "until")
-      then and_then (λ condition. Ok (entry.Until condition limit))
-      (condition_at verbs.Run Third (after_word until))
+      then and_then (λ waited. Ok (entry.Until waited limit)) (until_at (after_word until))
       else Err (Operands verbs.Run))
       (read_of verbs.Run (lone_number (first_word operands)))
 
   -- to the first or the last order that meets a condition
   abbrev pub to_sought : Which → List ℕ → Result Entry Wrong
   to_sought which operands =
-      and_then (λ condition. Ok (entry.To (Sought which condition)))
+      and_then (λ condition. Ok (entry.To (Sought which condition) Lines))
       (condition_at verbs.To Second operands)
 
   -- to the beginning of an order: that of a number, or the first or the last one that meets a
@@ -393,7 +410,7 @@ module _ (names : List (List ℕ × ℕ)) (counter : ℕ) where
       if bytes_eq (first_word operands) (codes "first") then to_sought whiches.First (after_word operands)
       else (if bytes_eq (first_word operands) (codes "last")
       then to_sought whiches.Last (after_word operands)
-      else read_of verbs.To (option_map (λ order. entry.To (Order order)) (lone_number operands)))
+      else read_of verbs.To (option_map (λ order. entry.To (Order order) Lines) (lone_number operands)))
 
   -- a word for an address
   unfoldable pub put_entry : List ℕ → Result Entry Wrong

@@ -20,4 +20,4 @@ moment_asked kept =
 
 -- the refusal where there were fewer orders
 unfoldable pub not_yet_text : ℕ → List ℕ
-not_yet_text orders = refusal_words (TooFar orders) ++ codes ": only so many orders were performed\n"
+not_yet_text orders = refusal_words (TooFar orders) ++ codes ": only this many orders were performed\n"

@@ -35,7 +35,7 @@ use Rattle.lgp_monitor.specs.Entry.{entry_of, has_objects, in_form}
 use Rattle.lgp_monitor.specs.Wrongs.{misformed_text}
 use Rattle.lgp_monitor.specs.Operating.{operated, run_line, starts_text}
 use Rattle.lgp_monitor.specs.Untils.{is_met, met_text, orders_done, replied_until}
-use Rattle.lgp_when.specs.declared.condition.Condition.{Condition}
+use Rattle.lgp_when.specs.declared.until.Until.{Until}
 use Rattle.lgp_monitor.specs.declared.answered.Answered.{Answered}
 use Rattle.lgp_monitor.specs.declared.telling.Telling.{Telling}
 use Rattle.lgp_monitor.specs.declared.entry.Entry.{Entry}
@@ -91,17 +91,17 @@ module _ (recorded : Recorded LabState) where
       done.lines
 
   -- a run until a condition is met: its reply, and whether it was met
-  abbrev pub answer_to_until : Condition → ℕ → Answer (Recorded LabState)
-  answer_to_until condition limit =
-      let replied = replied_until condition limit recorded.state in
+  abbrev pub answer_to_until : Until → ℕ → Answer (Recorded LabState)
+  answer_to_until until limit =
+      let replied = replied_until until limit recorded.state in
       answered_with (explained_text replied.after replied.reply
-      ++ met_text (is_met condition limit recorded.state))
-      (run_line (orders_done condition limit recorded.state) ∷ [])
+      ++ met_text (is_met until limit recorded.state))
+      (run_line (orders_done until limit recorded.state) ∷ [])
 
   -- a line that leads by a way to the beginning of an order, if there is one
-  abbrev pub answer_at_order : Way → Option ℕ → Answer (Recorded LabState)
-  answer_at_order way order = record {
-    reply = reply_at_order recorded way order;
+  abbrev pub answer_at_order : Way → RecordForm → Option ℕ → Answer (Recorded LabState)
+  answer_at_order way form order = record {
+    reply = reply_at_order recorded way form order;
     after = after_meaning script_language opening_state recorded
         (meaning_at_order recorded order);
   }
@@ -115,10 +115,10 @@ module _ (recorded : Recorded LabState) where
   meaning_of (entry.Go address) kept = Lines (go_lines address)
   meaning_of (entry.Reported telling limit) kept = Lines (run_line limit ∷ [])
   meaning_of (entry.Operate limit) kept = Lines (operated limit recorded.state).lines
-  meaning_of (entry.Until condition limit) kept =
-      Lines (run_line (orders_done condition limit recorded.state) ∷ [])
+  meaning_of (entry.Until until limit) kept =
+      Lines (run_line (orders_done until limit recorded.state) ∷ [])
   meaning_of entry.New kept = Anew []
-  meaning_of (entry.To way) kept = meaning_at_order recorded (order_of_way recorded way)
+  meaning_of (entry.To way form) kept = meaning_at_order recorded (order_of_way recorded way)
   meaning_of asked kept = Lines []
 
   -- nothing is replied to a blank line or a comment
@@ -135,11 +135,11 @@ module _ (recorded : Recorded LabState) where
   reply_of (entry.Go address) kept = replies_text script_language recorded (go_lines address)
   reply_of (entry.Reported telling limit) kept = (told_run telling limit).reply
   reply_of (entry.Operate limit) kept = (answer_to_operating limit).reply
-  reply_of (entry.Until condition limit) kept = (answer_to_until condition limit).reply
+  reply_of (entry.Until until limit) kept = (answer_to_until until limit).reply
   reply_of (entry.Asked question) kept = answer_to question recorded.state
   reply_of entry.Transcript kept = recorded.transcript
   reply_of entry.New kept = codes "new\n"
-  reply_of (entry.To way) kept = reply_at_order recorded way (order_of_way recorded way)
+  reply_of (entry.To way form) kept = reply_at_order recorded way form (order_of_way recorded way)
   reply_of entry.Help kept = help_text
   reply_of (entry.HelpOf verb) kept = form_line (first_word (after_word kept.front)) verb
 
@@ -159,9 +159,9 @@ module _ (recorded : Recorded LabState) where
   refused_of (entry.Reported telling limit) kept =
       is_refusal (replied_to_run recorded.state limit).reply
   refused_of (entry.Operate limit) kept = is_refusal (operated limit recorded.state).last.reply
-  refused_of (entry.Until condition limit) kept =
-      is_refusal (replied_until condition limit recorded.state).reply
-  refused_of (entry.To way) kept = refuses_way recorded way
+  refused_of (entry.Until until limit) kept =
+      is_refusal (replied_until until limit recorded.state).reply
+  refused_of (entry.To way form) kept = refuses_way recorded way
   refused_of asked kept = false
 
   -- what its answer is beside its text

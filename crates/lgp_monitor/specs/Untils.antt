@@ -5,23 +5,19 @@ use Rattle.lgp_script.specs.LabState.{LabState}
 use Rattle.lgp_script.specs.Reply.{Replied}
 use Rattle.lgp_script.specs.UntilReply.{most_until}
 use Rattle.lgp_when.specs.Until.{is_done}
-use Rattle.lgp_when.specs.declared.condition.Condition.{Condition}
 use Rattle.lgp_when.specs.declared.until.Until.{Until}
 
-abbrev pub once : Condition → Until
-once condition = record { condition = condition; times = 1 }
-
 -- of at most a number of orders
-module _ (condition : Condition) (limit : ℕ) (lab : LabState) where
+module _ (until : Until) (limit : ℕ) (lab : LabState) where
   abbrev pub replied_until : Replied
-  replied_until = replied_to_run lab (most_until (once condition) limit lab)
+  replied_until = replied_to_run lab (most_until until limit lab)
 
   -- how many it performs: it stands for a run of as many
   abbrev pub orders_done : ℕ
-  orders_done = orders_run (most_until (once condition) limit lab) lab.debugger
+  orders_done = orders_run (most_until until limit lab) lab.debugger
 
   abbrev pub is_met : Bool
-  is_met = is_done (once condition) lab.debugger.state orders_done
+  is_met = is_done until lab.debugger.state orders_done
 
 -- whether the condition was met
 unfoldable pub met_text : Bool → List ℕ

@@ -95,7 +95,7 @@ operands_form (verbs.Number command) = codes " NUMBER"
 operands_form (verbs.NumberAddress reports.Columns) = codes " NUMBER or optimum NUMBER ttss"
 operands_form (verbs.NumberAddress (reports.Records form)) =
     codes " NUMBER or optimum-data NUMBER ttss"
-operands_form verbs.Run = codes " NUMBER or run NUMBER until CONDITION: ttss, a word as put ttss has it, ttss < NUMBER, changed ttss, printed NUMBER, rows NUMBER or clock NUMBER"
+operands_form verbs.Run = codes " NUMBER or run NUMBER until CONDITION: ttss, a word as put ttss has it, ttss < NUMBER, changed ttss, printed NUMBER, rows NUMBER or clock NUMBER, each also after NUMBER times"
 operands_form (verbs.Range command) = codes " ttss NUMBER, at most 64"
 operands_form verbs.ScaledRange = codes " ttss NUMBER, at most 64, or numbers ttss NUMBER POINT"
 operands_form verbs.CountedRange =

@@ -7,7 +7,7 @@ use Rattle.lgp_monitor.specs.Mistakes.{has_capital, said_of}
 use Rattle.lgp_monitor.specs.Verbs.{operands_form}
 use Rattle.lgp_monitor.specs.declared.mistake.Mistake.TheVariants as mistakes
 use Rattle.lgp_monitor.specs.declared.wrong.LineWord.{LineWord}
-use Rattle.lgp_monitor.specs.declared.wrong.LineWord.TheVariants.{Name, First, Second, Third, Fourth}
+use Rattle.lgp_monitor.specs.declared.wrong.LineWord.TheVariants.{Name, First, Second, Third, Fourth, Fifth, Sixth}
 use Rattle.lgp_monitor.specs.declared.wrong.Part.{Part}
 use Rattle.lgp_monitor.specs.declared.wrong.Part.TheVariants.{AfterName}
 use Rattle.lgp_monitor.specs.declared.wrong.Part.TheVariants as parts
@@ -15,19 +15,26 @@ use Rattle.lgp_monitor.specs.declared.wrong.Wrong.{Wrong}
 use Rattle.lgp_monitor.specs.declared.wrong.Wrong.TheVariants.{NoCommand, Operands}
 use Rattle.lgp_monitor.specs.declared.wrong.Wrong.TheVariants as wrongs
 
+abbrev pub after_three : List ℕ → List ℕ
+after_three line = after_word (after_word (after_word line))
+
 abbrev pub line_word : LineWord → List ℕ → List ℕ
 line_word Name line = first_word line
 line_word First line = first_word (after_word line)
 line_word Second line = first_word (after_word (after_word line))
-line_word Third line = first_word (after_word (after_word (after_word line)))
-line_word Fourth line = first_word (after_word (after_word (after_word (after_word line))))
+line_word Third line = first_word (after_three line)
+line_word Fourth line = first_word (after_word (after_three line))
+line_word Fifth line = first_word (after_word (after_word (after_three line)))
+line_word Sixth line = first_word (after_three (after_three line))
 
 -- the word after a word
 abbrev pub next_word : LineWord → LineWord
 next_word Name = First
 next_word First = Second
 next_word Second = Third
-next_word which = Fourth
+next_word Third = Fourth
+next_word Fourth = Fifth
+next_word which = Sixth
 
 -- a part of a line: all of it, or what comes after the name of its command
 abbrev pub part_of : Part → List ℕ → List ℕ

@@ -4,11 +4,12 @@ ghost use Rattle.std.specs.Prelude.{◌≡◌, ◌+◌, ◌^◌, ◌<◌, ◌≤
 ghost use Rattle.std.specs.Option.{option_copied, option_map_or};
 ghost use Rattle.lgp_assembler.specs.Marks.{marked_text};
 ghost use Rattle.lgp_source.specs.Source.{lines_of};
-ghost use Rattle.lgp_monitor.specs.Closing.{is_source_end, marked_fault, text_at};
+ghost use Rattle.lgp_monitor.specs.Closing.{is_source_end, marked_fault, said_line, text_at};
 ghost use Rattle.lgp_monitor.specs.ClosingInside.{closed_text};
 
 use crate::reason::push_refused;
 use lgp_assembler::{Fault, FaultKind, push_marked};
+use lgp_help::push_fault_said;
 use lgp_script::{Laboratory, Refusal, push_fault_line};
 use lgp_source::Lines;
 use lgp_stream::LineBytes;
@@ -130,7 +131,17 @@ impl<'s> Passed<'s> {
     }
 }
 
-/// Appends a fault with its marked line of the source.
+/// Appends a sentence on a kind of fault as a line.
+#[tactic(auto, unfolding(crate::specs::Closing::said_line))]
+fn push_said<A: Allocator>(text: &mut Vec<u8, A>, kind: FaultKind) -> Result<(), AllocError>
+    ensures { OnOk result (text.new.items ≡ text.old.items ++ said_line kind) }
+{
+    text.extend_from_slice(b"        ")?;
+    push_fault_said(text, kind.name().as_bytes())?;
+    text.extend_from_slice(b"\n")
+}
+
+/// Appends a fault with its marked line of the source, and a sentence.
 #[tactic(auto, unfolding(crate::specs::Closing::marked_fault))]
 fn push_marked_fault<A: Allocator>(
     text: &mut Vec<u8, A>,
@@ -145,7 +156,8 @@ fn push_marked_fault<A: Allocator>(
 {
     let line = lines.find(fault.line.saturating_sub(1));
     push_fault_line(text, fault)?;
-    push_marked_at(text, line, fault.kind)
+    push_marked_at(text, line, fault.kind)?;
+    push_said(text, fault.kind)
 }
 
 /// Appends faults, each with its marked line of the source.

@@ -1,34 +1,31 @@
 //! What a typed line asks for.
 
-ghost use Rattle.std.specs.Prelude.{◌≡◌, ◌||◌, ◌*ℤ◌, Ok, if◌then◌else◌, is_some, option_and_then, option_map, pos};
-ghost use Rattle.std.specs.Option.{option_copied, option_map_or};
-ghost use Rattle.std.specs.Result.{result_ok};
-ghost use Rattle.lgp_fraction.specs.Arithmetic.{low_bits};
-ghost use Rattle.lgp_fraction.specs.Decimal.{decimal_fraction};
+ghost use Rattle.std.specs.Prelude.{◌≡◌, ◌||◌, Ok, if◌then◌else◌, is_some, option_and_then, option_map};
+ghost use Rattle.std.specs.Option.{option_map_or};
 ghost use Rattle.lgp_command.specs.Command.{command_of, is_comment, lone_number};
 ghost use Rattle.lgp_command.specs.Span.{range_of};
 ghost use Rattle.lgp_stream.specs.LineWords.{after_word, has_no_word};
 ghost use Rattle.lgp_text.specs.NamedValues.{named};
 ghost use Rattle.lgp_monitor.specs.Verbs.{verb_names};
 ghost use Rattle.lgp_monitor.specs.Wrongs.{name_wrong};
-ghost use Rattle.lgp_monitor.specs.Entry.{address_at, address_entry, and_then, as_objects, asked_alone, asked_as_objects, asked_at, asked_by, asked_of, asked_with, bound_at, change_at, condition_at, condition_of, counted_by, digits_or_fraction, entry_by, entry_of, first_address, has_objects, in_form, is_counted, is_data, is_for_programs, is_objects, is_records, lone_point, lone_word, look_entry, numbers_entry, numbers_wrong, operand_at, operation_at, optimum_entry, optimum_of, plain_entry, point_at, put_entry, question_as_objects, range_at, read_of, report_as_objects, run_entry, telling_as_objects, to_entry, to_sought, typed_by, typed_entry, value_at, value_wrong, whole_at};
+ghost use Rattle.lgp_monitor.specs.Entry.{address_entry, and_then, as_objects, asked_alone, asked_as_objects, asked_at, asked_by, asked_of, asked_with, entry_by, entry_of, has_objects, in_form, is_data, is_for_programs, is_objects, is_records, lone_point, lone_word, look_entry, numbers_entry, optimum_entry, optimum_of, plain_entry, point_at, put_entry, question_as_objects, range_at, read_of, report_as_objects, run_entry, telling_as_objects, to_entry, to_sought, typed_by, typed_entry};
 
+use crate::condition::{condition_at, until_at};
 use crate::data_question::DataQuestion;
-use crate::mistake::{Mistake, address_mistake, takes_numbers, takes_place, value_mistake};
 use crate::question::Question;
 use crate::scaled::Point;
 use crate::telling::{Report, Telling};
+use crate::value::{address_at, first_address, point_at, value_at, value_wrong};
 use crate::verb::{AddressCommand, LoneCommand, NumberCommand, RangeCommand, Verb, verb_named};
 use crate::way::Way;
 use crate::wrong::{LineWord, Part, Wrong, name_wrong};
-use lgp_assembler::{Name, OperandFault, Symbols, address_operand, operation_word};
+use lgp_assembler::Name;
 use lgp_command::{Asked, Command, Count, Span, asked_in, is_comment, lone_count};
 use lgp_fields::RecordForm;
-use lgp_fraction::Fraction;
 use lgp_moment::Which;
 use lgp_stream::{LineBytes, Split, has_no_word, split_word};
-use lgp_when::Condition;
-use lgp_word::{Address, Word, read_digits};
+use lgp_when::Until;
+use lgp_word::Address;
 
 /// What a typed line asks for.
 #[derive(Clone, Copy)]
@@ -45,10 +42,10 @@ pub enum Entry {
     Reported(Telling, Count),
     /// Runs of at most a given number of orders, with Start pressed where the machine has halted at a z after a p, as often at most.
     Operate(Count),
-    /// A run of at most a given number of orders that ends with the one that meets a condition.
-    Until(Condition, Count),
-    /// A session brought to the beginning of an order.
-    To(Way),
+    /// A run of at most a given number of orders that ends with the one that meets a condition as often as is waited for.
+    Until(Until, Count),
+    /// A session brought to the beginning of an order, and the form in which it is said where it is then.
+    To(Way, RecordForm),
     /// Something that is shown and changes nothing.
     Asked(Question),
     /// The script lines so far.
@@ -59,205 +56,6 @@ pub enum Entry {
     Help,
     /// The form of a command.
     HelpOf(Verb),
-}
-
-/// The address that a word of a line is, by the names of the last source and what `*` is.
-#[tactic(auto, unfolding(crate::specs::Entry::address_at))]
-fn address_at(
-    names: &[(Name, u16)],
-    place: Address,
-    which: LineWord,
-    text: &[u8],
-) -> Result<Address, Wrong>
-    ensures { result ≡ address_at names.now place which text.now }
-{
-    match address_operand(&Symbols { names }, u64::from(place.number()), text) {
-        Ok(address) => Ok(address),
-        Err(fault) => Err(Wrong::Word(which, address_mistake(fault, text))),
-    }
-}
-
-/// The first of the operands of a command as an address.
-#[tactic(auto, unfolding(crate::specs::Entry::first_address))]
-fn first_address(
-    names: &[(Name, u16)],
-    place: Address,
-    verb: Verb,
-    which: LineWord,
-    operands: &[u8],
-) -> Result<Address, Wrong>
-    ensures { result ≡ first_address names.now place verb which operands.now }
-{
-    if has_no_word(operands) {
-        return Err(Wrong::Operands(verb));
-    }
-    address_at(names, place, which, split_word(operands).word)
-}
-
-/// The first of some operands.
-fn operand_at(operands: &[u8]) -> Option<&[u8]>
-    ensures { option_copied result ≡ operand_at operands.now }
-{
-    if has_no_word(operands) {
-        return None;
-    }
-    Some(split_word(operands).word)
-}
-
-/// The word of an operation, in the place of the word.
-#[tactic(auto, unfolding(crate::specs::Entry::operation_at))]
-fn operation_at(names: &[(Name, u16)], place: Address, line: &[u8]) -> Option<Word>
-    ensures { result ≡ operation_at names.now place line.now }
-{
-    let operation = split_word(line);
-    let first = split_word(operation.rest);
-    let second = split_word(first.rest);
-    if !has_no_word(second.rest) {
-        return None;
-    }
-    operation_word(
-        &Symbols { names },
-        u64::from(place.number()),
-        operation.word,
-        operand_at(operation.rest),
-        operand_at(first.rest),
-    )
-    .ok()
-}
-
-/// The place after which a number's point is.
-fn point_at(operands: &[u8]) -> &[u8]
-    ensures { result.now ≡ point_at operands.now }
-{
-    if has_no_word(operands) {
-        return b"30";
-    }
-    split_word(operands).word
-}
-
-/// The word of a whole number.
-#[tactic(auto, unfolding(crate::specs::Entry::whole_at))]
-fn whole_at(names: &[(Name, u16)], place: Address, operands: &[u8]) -> Option<Word>
-    ensures { result ≡ whole_at names.now place operands.now }
-{
-    let number = split_word(operands);
-    let point = split_word(number.rest);
-    if !has_no_word(point.rest) {
-        return None;
-    }
-    operation_word(
-        &Symbols { names },
-        u64::from(place.number()),
-        b"int",
-        Some(number.word),
-        Some(point_at(number.rest)),
-    )
-    .ok()
-}
-
-/// The word of a fraction's text.
-fn fraction_at(text: &[u8]) -> Option<Word>
-    ensures { result
-        ≡ option_map (λ steps. low_bits (pos 2 *ℤ steps)) (result_ok (decimal_fraction text.now)) }
-{
-    match Fraction::from_decimal(text) {
-        Ok(fraction) => Some(fraction.word()),
-        Err(_) => None,
-    }
-}
-
-/// The word of eight digits or of a fraction.
-#[tactic(auto, unfolding(crate::specs::Entry::digits_or_fraction))]
-fn digits_or_fraction(text: &[u8]) -> Option<Word>
-    ensures { result ≡ digits_or_fraction text.now }
-{
-    match read_digits(text) {
-        Some(word) => Some(word),
-        None => fraction_at(text),
-    }
-}
-
-/// The word that comes after an address.
-#[tactic(auto, unfolding(crate::specs::Entry::value_at))]
-fn value_at(names: &[(Name, u16)], place: Address, operands: &[u8]) -> Option<Word>
-    ensures { result ≡ value_at names.now place operands.now }
-{
-    let first = split_word(operands);
-    if first.word == b"=".as_slice() {
-        return whole_at(names, place, first.rest);
-    }
-    if !has_no_word(first.rest) {
-        return operation_at(names, place, operands);
-    }
-    match digits_or_fraction(first.word) {
-        Some(word) => Some(word),
-        None => operation_at(names, place, operands),
-    }
-}
-
-/// The word that comes after `<`.
-fn bound_at(names: &[(Name, u16)], place: Address, operands: &[u8]) -> Option<Word>
-    ensures { result ≡ bound_at names.now place operands.now }
-{
-    match whole_at(names, place, operands) {
-        Some(word) => Some(word),
-        None => value_at(names, place, operands),
-    }
-}
-
-/// The condition on the machine at an address, by what comes after the address.
-fn condition_of(names: &[(Name, u16)], place: Address, value: &[u8]) -> Option<Condition>
-    ensures { result ≡ condition_of names.now place value.now }
-{
-    if has_no_word(value) {
-        return Some(Condition::At(place));
-    }
-    let first = split_word(value);
-    if first.word == b"<".as_slice() {
-        let bound = bound_at(names, place, first.rest)?;
-        return Some(Condition::Below(place, bound));
-    }
-    let word = value_at(names, place, value)?;
-    Some(Condition::Equal(place, word))
-}
-
-/// Whether operands are a name and a number, or what is written in its place.
-fn is_counted(name: &[u8], operands: &[u8]) -> bool
-    ensures { result ≡ is_counted name.now operands.now }
-{
-    let Split { word, rest } = split_word(operands);
-    word == name && !has_no_word(rest)
-}
-
-/// Why the operands of `=`, or of an operation without an address, are no word.
-fn numbers_wrong(operation: &[u8], operands: &[u8]) -> Wrong
-    ensures { result ≡ numbers_wrong operation.now operands.now }
-{
-    if operation == b"=".as_slice() && !has_no_word(operands) {
-        return Wrong::Word(LineWord::Third, Mistake::Whole);
-    }
-    if operation == b"int".as_slice() && has_no_word(split_word(operands).rest) {
-        return Wrong::Word(LineWord::Second, Mistake::Point);
-    }
-    Wrong::Operands(Verb::Word)
-}
-
-/// Why a value is no word.
-fn value_wrong(names: &[(Name, u16)], place: Address, value: &[u8]) -> Wrong
-    ensures { result ≡ value_wrong names.now place value.now }
-{
-    if has_no_word(value) {
-        return Wrong::Operands(Verb::Word);
-    }
-    let Split { word, rest } = split_word(value);
-    if takes_place(word) {
-        let address = first_address(names, place, Verb::Word, LineWord::Third, rest);
-        return address.err().unwrap_or(Wrong::Operands(Verb::Word));
-    }
-    if takes_numbers(word) {
-        return numbers_wrong(word, rest);
-    }
-    Wrong::Word(LineWord::Second, value_mistake(word))
 }
 
 /// A word for an address.
@@ -493,63 +291,7 @@ fn optimum_entry(
     optimum_of(names, counter, form, number.rest, limit)
 }
 
-/// The number after the name of a condition.
-fn counted_by(verb: Verb, operands: &[u8]) -> Result<u64, Wrong>
-    ensures { result ≡ counted_by verb operands.now }
-{
-    match lone_count(split_word(operands).rest) {
-        Some(count) => Ok(count.get()),
-        None => Err(Wrong::Operands(verb)),
-    }
-}
-
-/// The change of the word at an address.
-fn change_at(
-    names: &[(Name, u16)],
-    counter: Address,
-    verb: Verb,
-    which: LineWord,
-    operands: &[u8],
-) -> Result<Condition, Wrong>
-    ensures { result ≡ change_at names.now counter verb which operands.now }
-{
-    let place = first_address(names, counter, verb, which, operands)?;
-    if has_no_word(split_word(operands).rest) {
-        Ok(Condition::Changed(place))
-    } else {
-        Err(Wrong::Operands(verb))
-    }
-}
-
-/// A condition that a command names, of which this word of the line is the first.
-#[tactic(auto, unfolding(crate::specs::Entry::condition_at))]
-fn condition_at(
-    names: &[(Name, u16)],
-    counter: Address,
-    verb: Verb,
-    which: LineWord,
-    operands: &[u8],
-) -> Result<Condition, Wrong>
-    ensures { result ≡ condition_at names.now counter verb which operands.now }
-{
-    let rest = split_word(operands).rest;
-    if is_counted(b"printed", operands) {
-        return Ok(Condition::Printed(counted_by(verb, operands)?));
-    }
-    if is_counted(b"rows", operands) {
-        return Ok(Condition::Rows(counted_by(verb, operands)?));
-    }
-    if is_counted(b"clock", operands) {
-        return Ok(Condition::Clock(counted_by(verb, operands)?));
-    }
-    if is_counted(b"changed", operands) {
-        return change_at(names, counter, verb, which.next(), rest);
-    }
-    let place = first_address(names, counter, verb, which, operands)?;
-    condition_of(names, place, rest).ok_or(Wrong::Operands(verb))
-}
-
-/// A run that ends with the order that meets a condition.
+/// A run that ends with the order that meets a condition as often as is waited for.
 #[tactic(auto, unfolding(crate::specs::Entry::run_entry))]
 fn run_entry(names: &[(Name, u16)], counter: Address, operands: &[u8]) -> Result<Entry, Wrong>
     ensures { result ≡ run_entry names.now counter operands.now }
@@ -562,8 +304,7 @@ fn run_entry(names: &[(Name, u16)], counter: Address, operands: &[u8]) -> Result
     if until.word != b"until".as_slice() {
         return Err(Wrong::Operands(Verb::Run));
     }
-    let condition = condition_at(names, counter, Verb::Run, LineWord::Third, until.rest)?;
-    Ok(Entry::Until(condition, limit))
+    Ok(Entry::Until(until_at(names, counter, until.rest)?, limit))
 }
 
 /// To the first or the last order that meets a condition.
@@ -576,7 +317,7 @@ fn to_sought(
     ensures { result ≡ to_sought names.now counter which operands.now }
 {
     let condition = condition_at(names, counter, Verb::To, LineWord::Second, operands)?;
-    Ok(Entry::To(Way::Sought(which, condition)))
+    Ok(Entry::To(Way::Sought(which, condition), RecordForm::Lines))
 }
 
 /// To the beginning of an order.
@@ -592,7 +333,7 @@ fn to_entry(names: &[(Name, u16)], counter: Address, operands: &[u8]) -> Result<
         return to_sought(names, counter, Which::Last, rest);
     }
     match lone_count(operands) {
-        Some(order) => Ok(Entry::To(Way::Order(order))),
+        Some(order) => Ok(Entry::To(Way::Order(order), RecordForm::Lines)),
         None => Err(Wrong::Operands(Verb::To)),
     }
 }
@@ -688,6 +429,7 @@ fn is_for_programs(entry: &Entry) -> bool
     match entry {
         Entry::Asked(question) => is_data(question),
         Entry::Reported(telling, _) => is_records(telling.form()),
+        Entry::To(_, _) => true,
         _ => false,
     }
 }
@@ -704,7 +446,8 @@ pub fn has_objects(entry: &Entry) -> bool
     ensures { result ≡ has_objects entry.now }
 {
     match entry {
-        Entry::Asked(Question::Data(_, RecordForm::Objects)) => true,
+        Entry::Asked(Question::Data(_, RecordForm::Objects)) | Entry::To(_, RecordForm::Objects) =>
+            true,
         Entry::Reported(telling, _) => is_objects(telling.form()),
         _ => false,
     }
@@ -750,6 +493,7 @@ fn as_objects(entry: Entry) -> Entry
     match entry {
         Entry::Asked(question) => Entry::Asked(question_as_objects(question)),
         Entry::Reported(telling, limit) => Entry::Reported(telling_as_objects(telling), limit),
+        Entry::To(way, _) => Entry::To(way, RecordForm::Objects),
         other => other,
     }
 }

@@ -16,6 +16,7 @@ pub use wrong::{LineWord, Part, Wrong};
 
 mod answered;
 mod closing;
+mod condition;
 mod data_question;
 mod entry;
 mod file_texts;
@@ -36,6 +37,7 @@ mod run_end;
 mod scaled;
 mod telling;
 mod until;
+mod value;
 mod verb;
 mod way;
 mod wrong;

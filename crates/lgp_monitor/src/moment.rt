@@ -39,5 +39,5 @@ pub fn push_not_yet<A: Allocator>(text: &mut Vec<u8, A>, orders: u64) -> Result<
     ensures { OnOk result (text.new.items ≡ text.old.items ++ not_yet_text orders) }
 {
     push_refusal_words(text, &Refusal::TooFar(orders))?;
-    text.extend_from_slice(b": only so many orders were performed\n")
+    text.extend_from_slice(b": only this many orders were performed\n")
 }

@@ -272,8 +272,8 @@ fn perform<A: Allocator + Copy, P: Progress>(
         }
         Entry::Reported(telling, limit) => explain_run(alloc, recorder, telling, limit, reply),
         Entry::Operate(limit) => operate(alloc, recorder, limit, reply),
-        Entry::Until(condition, limit) => run_until(alloc, recorder, condition, limit, reply),
-        Entry::To(way) => go_to(alloc, recorder, way, reply),
+        Entry::Until(until, limit) => run_until(alloc, recorder, until, limit, reply),
+        Entry::To(way, form) => go_to(alloc, recorder, way, form, reply),
         Entry::Go(address) => {
             go(alloc, recorder, address, reply)?;
             Ok(false)

@@ -11,7 +11,7 @@ use crate::reason::{is_refusal, push_explained};
 use lgp_command::{Command, Count};
 use lgp_script::Laboratory;
 use lgp_stream::Recorder;
-use lgp_when::{Condition, Until};
+use lgp_when::Until;
 use std::alloc::{AllocError, Allocator};
 
 /// Appends whether a condition was met.
@@ -26,24 +26,20 @@ fn push_met<A: Allocator>(text: &mut Vec<u8, A>, is_met: bool) -> Result<(), All
     })
 }
 
-/// Runs until an order meets a condition, and keeps the line of a run of as many orders as were performed. Returns whether it is refused.
+/// Runs until its orders have met a condition as often as is waited for, and keeps the line of a run of as many orders as were performed. Returns whether it is refused.
 pub fn run_until<A: Allocator + Copy>(
     alloc: A,
     recorder: &mut Recorder<Laboratory<A>, A>,
-    condition: Condition,
+    until: Until,
     limit: Count,
     reply: &mut Vec<u8, A>,
 ) -> Result<bool, AllocError>
     requires { recorder.old.state.opened ≡ None }
     ensures answer { OnOk result (IsAnswered reply.old.items reply.new.items recorder.new
-        (answer_to_until recorder.old condition limit)) }
+        (answer_to_until recorder.old until limit)) }
     ensures refused { IfOk result (λ refused. refused
-        ≡ is_refusal (replied_until condition limit recorder.old.state).reply) }
+        ≡ is_refusal (replied_until until limit recorder.old.state).reply) }
 {
-    let until = Until {
-        condition,
-        times: 1,
-    };
     let done = recorder.answers_mut().run_until(&until, limit.get())?;
     let orders = limit.lowered(done.orders);
     keep_command(alloc, recorder, &Command::Run(orders), b"")?;

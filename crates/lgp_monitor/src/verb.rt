@@ -239,7 +239,7 @@ pub fn operands_form(verb: Verb) -> &'static [u8]
         Verb::NumberAddress(Report::Columns) => b" NUMBER or optimum NUMBER ttss",
         Verb::NumberAddress(Report::Records(_)) => b" NUMBER or optimum-data NUMBER ttss",
         Verb::Run => {
-            b" NUMBER or run NUMBER until CONDITION: ttss, a word as put ttss has it, ttss < NUMBER, changed ttss, printed NUMBER, rows NUMBER or clock NUMBER"
+            b" NUMBER or run NUMBER until CONDITION: ttss, a word as put ttss has it, ttss < NUMBER, changed ttss, printed NUMBER, rows NUMBER or clock NUMBER, each also after NUMBER times"
         }
         Verb::Range(_) => b" ttss NUMBER, at most 64",
         Verb::ScaledRange => b" ttss NUMBER, at most 64, or numbers ttss NUMBER POINT",

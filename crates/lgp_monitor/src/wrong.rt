@@ -19,6 +19,8 @@ pub enum LineWord {
     Second,
     Third,
     Fourth,
+    Fifth,
+    Sixth,
 }
 
 impl LineWord {
@@ -30,7 +32,9 @@ impl LineWord {
             LineWord::Name => LineWord::First,
             LineWord::First => LineWord::Second,
             LineWord::Second => LineWord::Third,
-            LineWord::Third | LineWord::Fourth => LineWord::Fourth,
+            LineWord::Third => LineWord::Fourth,
+            LineWord::Fourth => LineWord::Fifth,
+            LineWord::Fifth | LineWord::Sixth => LineWord::Sixth,
         }
     }
 }
@@ -63,12 +67,16 @@ fn line_word(which: LineWord, line: &[u8]) -> &[u8]
     let first = split_word(name.rest);
     let second = split_word(first.rest);
     let third = split_word(second.rest);
+    let fourth = split_word(third.rest);
+    let fifth = split_word(fourth.rest);
     match which {
         LineWord::Name => name.word,
         LineWord::First => first.word,
         LineWord::Second => second.word,
         LineWord::Third => third.word,
-        LineWord::Fourth => split_word(third.rest).word,
+        LineWord::Fourth => fourth.word,
+        LineWord::Fifth => fifth.word,
+        LineWord::Sixth => split_word(fifth.rest).word,
     }
 }
 

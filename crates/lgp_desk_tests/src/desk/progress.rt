@@ -129,7 +129,7 @@ static ROWS: [Row; 10] = [
     (
         1,
         b"press start\nsource\nrun 45\n.\n",
-        b"live\n? 9 Faults\nline 1 UnknownOrder\n        run 45\n            ^^\nline 2 NoEnd\n",
+        b"live\n? 9 Faults\nline 1 UnknownOrder\n        run 45\n            ^^\n        there is no such operation: write one of the sixteen letters, -t, word, frac, int, org or end\nline 2 NoEnd\n        the end line is missing: end with a line that has end and the label of the first order\n",
         &[],
         0,
     ),
