@@ -2,6 +2,8 @@
 #![tactic(auto)]
 
 #[cfg(test)]
+mod count;
+#[cfg(test)]
 mod faults;
 #[cfg(test)]
 mod lab;

@@ -25,11 +25,11 @@ pub enum Condition {
     Below(Address, Word),
     /// An order leaves another word at this address.
     Changed(Address),
-    /// At least so many codes are printed.
+    /// At least this many codes are printed.
     Printed(u64),
-    /// At least so many rows are printed: each carriage return ends one.
+    /// At least this many rows are printed: each carriage return ends one.
     Rows(u64),
-    /// At least so many word times are over.
+    /// At least this many word times are over.
     Clock(u64),
 }
 
