@@ -1,6 +1,6 @@
-// What of a script is refused, with the number of its line, the line, and why, as the monitor gives the reason.
+// What of a script is refused, or of a source is at fault, with the number of its line, the line, and why, as the monitor gives the reason.
 //
-//     node refusals.mjs SCRIPT [NAME]      tells it on standard error, with another name for the script
+//     node refusals.mjs script|source FILE [NAME]      tells it on standard error, with another name for the file
 import { readFileSync } from "node:fs";
 import { fileURLToPath } from "node:url";
 import { writeAll } from "./files.mjs";
@@ -12,14 +12,14 @@ import { TextSession } from "./text_session.mjs";
 const INDENT = "    ";
 const isFault = (line) => line.startsWith("line ");
 
-/** The faults of a source that begins after a line, each with its lines of the monitor's reply. */
-function faultsIn(reply, opened, lines) {
+/** The faults of a source that begins after a line, each with its lines of the monitor's reply, of which the first has the kind. */
+function faultsIn(reply, opened, lines, first) {
     const faults = [];
     for (const line of reply.slice(1)) {
         const [, number, kind] = wordsOf(line);
         if (!isFault(line)) faults.at(-1).reason.push(line);
         else faults.push({
-            number: opened + Number(number), line: lines[opened + Number(number) - 1] ?? "", reason: [`${reply[0]}: ${kind}`],
+            number: opened + Number(number), line: lines[opened + Number(number) - 1] ?? "", reason: [first(kind)],
         });
     }
     return faults;
@@ -97,7 +97,7 @@ class Passage {
         const refusal = this.#replies.first;
         this.#replies.passRefusal();
         const reason = linesIn(reply);
-        if (reason.some(isFault)) this.#found.push(...faultsIn(reason, this.#opened, this.#lines));
+        if (reason.some(isFault)) this.#found.push(...faultsIn(reason, this.#opened, this.#lines, (kind) => `${reason[0]}: ${kind}`));
         else if (isRefusal(reply)) this.#found.push({ number, line, reason });
         else {
             this.#found.push({ number, line, reason: [`${refusal}: only ./lgp_monitor takes this line; a script has other forms`] });
@@ -118,6 +118,15 @@ export function refusalsOf(module, script) {
     return new Passage(module, script, lines).refusals();
 }
 
+/** What of a source is at fault; nothing where a line of it is a point alone, which ends a source at the monitor. */
+export function faultsOfSource(module, source) {
+    const lines = linesIn(source.endsWith("\n") ? source : `${source}\n`).map(withoutReturn);
+    const monitor = openSession(module);
+    for (const line of ["source", ...lines]) if (line !== ".") monitor.answer(line);
+    const reply = monitor.answer(".");
+    return lines.includes(".") || !isRefusal(reply) ? [] : faultsIn(linesIn(reply), 0, lines, (kind) => kind);
+}
+
 /** Each refusal with the file's name, its number and its line, and below them the reason. */
 export const toldRefusals =
     (name, refusals) => refusals.map(({ number, line, reason }) => (
@@ -125,7 +134,8 @@ export const toldRefusals =
     )).join("");
 
 if (process.argv[1] === fileURLToPath(import.meta.url)) {
-    const [file, name = file] = process.argv.slice(2);
+    const [kind, file, name = file] = process.argv.slice(2);
     const module = compiled(readFileSync(new URL("lgp_c_region.wasm", import.meta.url)));
-    writeAll(2, bytesFrom(toldRefusals(textFrom(Buffer.from(name)), refusalsOf(module, textFrom(readFileSync(file))))));
+    const found = (kind === "source" ? faultsOfSource : refusalsOf)(module, textFrom(readFileSync(file)));
+    writeAll(2, bytesFrom(toldRefusals(textFrom(Buffer.from(name)), found)));
 }

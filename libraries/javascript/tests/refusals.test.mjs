@@ -3,7 +3,7 @@ import assert from "node:assert/strict";
 import { readFileSync, readdirSync } from "node:fs";
 import { test } from "node:test";
 import { linesIn } from "../lines.mjs";
-import { refusalsOf, toldRefusals } from "../refusals.mjs";
+import { faultsOfSource, refusalsOf, toldRefusals } from "../refusals.mjs";
 import { answerScript, compiled } from "../session.mjs";
 
 const module = compiled(readFileSync(new URL("../lgp_c_region.wasm", import.meta.url)));
@@ -21,8 +21,17 @@ test("a refusal has its line's number, its line and the monitor's reason", () =>
 
 test("each fault of a source has the number of its own line, also where the source is not closed", () => {
     assert.equal(told("turn 5\nsource\nfirst b two\n q two\n end first\n.\nlist\n"),
-        "it:3: first b two\n    ? 9 Faults: UnknownName\n            first b two\n                    ^^^\nit:4:  q two\n    ? 9 Faults: UnknownOrder\n             q two\n             ^\nit:7: list\n    ? 10 NoImage: no source has been assembled yet\n");
+        "it:3: first b two\n    ? 9 Faults: UnknownName\n            first b two\n                    ^^^\n            no line has this label: check the spelling, or give a line this label\nit:4:  q two\n    ? 9 Faults: UnknownOrder\n             q two\n             ^\n            there is no such operation: write one of the sixteen letters, -t, word, frac, int, org or end\nit:7: list\n    ? 10 NoImage: no source has been assembled yet\n");
     assert.equal(told("source\n z"), "it:3: \n    ? 9 Faults: NoEnd\n");
+});
+
+test("each fault of a source for asm has its line and a sentence", () => {
+    const toldOf = (source) => toldRefusals("it", faultsOfSource(module, source));
+    assert.equal(toldOf("first b two\r\ntwo z\n q two\n end first"),
+        "it:3:  q two\n    UnknownOrder\n             q two\n             ^\n            there is no such operation: write one of the sixteen letters, -t, word, frac, int, org or end\n");
+    assert.equal(toldOf(" z"), "it:2: \n    NoEnd\n            the end line is missing: end with a line that has end and the label of the first order\n");
+    assert.equal(toldOf(" z\n end"), "");
+    assert.equal(toldOf(" q\n.\n end"), "");
 });
 
 test("what the monitor does for a line that scripts may not have is undone", () => {

@@ -9,13 +9,13 @@ _lgp_lab() {
     fi
     case ${COMP_WORDS[1]} in
         help) mapfile -t COMPREPLY < <(compgen -W 'asm tape run script batch' -- "$current") ;;
-        script)
+        script | asm)
             case $current in
                 -*) mapfile -t COMPREPLY < <(compgen -W '-h --help --verbose' -- "$current") ;;
                 *) mapfile -t COMPREPLY < <(compgen -f -- "$current") ;;
             esac
             ;;
-        asm | tape | run | batch)
+        tape | run | batch)
             case $current in
                 -*) mapfile -t COMPREPLY < <(compgen -W '-h --help' -- "$current") ;;
                 *) mapfile -t COMPREPLY < <(compgen -f -- "$current") ;;
