@@ -266,7 +266,8 @@ export class Laboratory {
     }
 
     to(order) {
-        return replies.orderOf(this.#asked("to", ...wayIn(order)));
+        const [there] = replies.recordsOf(this.#asked("json to", ...wayIn(order)));
+        return there.get("order");
     }
 
     at(order) {

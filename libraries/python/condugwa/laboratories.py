@@ -284,7 +284,8 @@ class Laboratory:
         chosen = [name + way for name, way in ways if way is not None]
         if len(chosen) != 1:
             raise ValueError("one of order, first and last is given")
-        return int(self._asked(f"to {chosen[0]}").split()[1])
+        (there,) = records_of(self._asked(f"json to {chosen[0]}").splitlines())
+        return int(value_of(there, "order"))
 
     def at(self, order: int) -> "Laboratory":
         """A laboratory of its own, as this one was when the order of a number began. Orders are counted from 0, and the number of all orders
