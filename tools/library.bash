@@ -41,10 +41,11 @@ need_lowering() {
 }
 
 # lower_module FROM TO: a module whose memory has addresses of 64 bits, made into one whose memory has addresses of 32, which every browser
-# takes, and then made faster. The exports take the same numbers.
+# takes, and then made faster, and once more, since that finds what was left. The exports take the same numbers.
 lower_module() {
-    wasm-opt --enable-memory64 --enable-bulk-memory --enable-sign-ext --enable-mutable-globals --enable-nontrapping-float-to-int \
-        --memory64-lowering -O3 "$1" -o "$2" || give_up "wasm-opt did not lower $1"
+    local features=(--enable-bulk-memory --enable-sign-ext --enable-mutable-globals --enable-nontrapping-float-to-int)
+    wasm-opt --enable-memory64 "${features[@]}" --memory64-lowering -O3 "$1" -o "$2" && wasm-opt "${features[@]}" -O4 "$2" -o "$2" ||
+        give_up "wasm-opt did not lower $1"
 }
 
 # Replies as a script has them: what a refusal has in a session alone is its reason, behind a colon.
