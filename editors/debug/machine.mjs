@@ -5,7 +5,7 @@ import { bytesFrom, linesIn, textFrom, wordsOf } from "../../libraries/javascrip
 import * as replies from "../../libraries/javascript/replies.mjs";
 import { TextSession } from "../../libraries/javascript/text_session.mjs";
 import { isYes } from "../answers.mjs";
-import { Past, typed } from "./past.mjs";
+import { Past, shown, typed } from "./past.mjs";
 import { Recorded, withoutAsides } from "./recorded.mjs";
 
 /** What answers another line, and asks as that does. */
@@ -15,8 +15,6 @@ const CODE = "\ncode ";
 
 /** What could not be done, as a client shows it. */
 export class Refused extends Error {}
-
-const shown = (text) => new TextDecoder().decode(bytesFrom(text));
 
 /** The reply, or where it is a refusal the line that says so. */
 function granted(reply) {

@@ -154,3 +154,18 @@ test("each moment that is come back to is the one of the proved session", async 
     }
     assert.ok(compared > 400, `${compared} compared`);
 });
+
+test("the loader's orders are no part of the way back, and neither is a run that was refused", async () => {
+    const source = ["source", ...COUNTS.trimEnd().split("\n"), "."];
+    const lines = [...BEGUN, "run 10", "run 5 until", "press manual", ...source, "load", "orders 7"];
+    const session = new TextSession(openSession());
+    for (const line of lines) session.answer(line);
+    const past = new Past(openSession, async () => {});
+    await past.follow(linesIn(session.answer("transcript")), BEGUN.length);
+    assert.equal(past.orders, 17);
+    for (const order of [3, 9, 10, 12, 16]) {
+        const there = new TextSession((await past.openedAfter(order + 1)).opened);
+        assert.equal(isRefusal(there.answer("back 1")), false);
+        assert.equal(there.answer("panel-data"), session.answer(`at ${order} panel-data`), `at ${order}`);
+    }
+});

@@ -7,6 +7,9 @@ const POSITIONS = ["up", "down"];
 /** What may be waited for beside what is at an address. */
 const COUNTED = ["changed ", "clock ", "printed ", "rows "];
 
+/** `back`, and its short name. */
+const BACK = ["back", "b"];
+
 export class Completion {
     #ask;
     #own;
@@ -63,6 +66,8 @@ export class Completion {
         }
         if (before[0] === "run" && before.length === 2) return ["until "];
         if (before[0] === "to" && before.length === 1) return ["first ", "last "];
+        if (before[0] === "paper") return before.length === 1 ? ["typed"] : [];
+        if (BACK.includes(before[0]) && before.length < 3) return before.length === 1 ? ["to "] : ["why "];
         if (["until", "to"].includes(before[0]) || before[2] === "until") return [...COUNTED, ...(await this.#places())];
         switch (commands.get(before[0])?.takes) {
             case "file":

@@ -56,8 +56,13 @@ export class ModuleEngine extends TextSession {
 
     /** Another laboratory, in which lines can be tried. */
     openBeside() {
-        const beside = new TextSession(this.#openBeside());
+        const beside = this.openAgain();
         return { type: async (line) => beside.answer(line), close: async () => {} };
+    }
+
+    /** Another laboratory, in which the lines of this one can be done again. */
+    openAgain() {
+        return new TextSession(this.#openBeside());
     }
 
     async close() {
@@ -207,6 +212,18 @@ export class ProgramEngine {
     /** Another laboratory, in which lines can be tried. */
     openBeside() {
         return new ProgramEngine(this.#path);
+    }
+
+    /** Another laboratory, in which the lines of this one can be done again. */
+    openAgain() {
+        const again = this.openBeside();
+        return {
+            answer: (line) => again.type(line),
+            get isSourceOpen() {
+                return again.isSourceOpen;
+            },
+            close: () => again.close(),
+        };
     }
 
     get isSourceOpen() {

@@ -2,6 +2,7 @@
 // stopped.
 import { Ahead, goesBack } from "./ahead.mjs";
 import { NAME } from "./aliases.mjs";
+import { Earlier } from "./earlier.mjs";
 import { Editing, lastSource, partedAtOpen } from "./editing.mjs";
 import { Stopped } from "./engines.mjs";
 import { fromHome } from "./file_names.mjs";
@@ -11,11 +12,12 @@ import { END, INTERRUPT } from "./keyboard.mjs";
 import { bytesFrom, linesIn, textFrom, withoutReturn, wordsOf } from "./lines.mjs";
 import { LongLines, Progress, letOthersGo } from "./long.mjs";
 import { OWN, formsOf } from "./own.mjs";
-import { commandsOf, heldOf, isRefusal, liveOf, panelOf } from "./replies.mjs";
+import { commandsOf, heldOf, isRefusal, liveOf, panelOf, recordsOf } from "./replies.mjs";
 import { NoMemory } from "./session.mjs";
 import { SHORT, meantBy } from "./shortcuts.mjs";
 import { saidOfStop } from "./stops.mjs";
 import { Views } from "./views.mjs";
+import { Interrupted } from "./way.mjs";
 
 const INDENT = "        ";
 /** The lines that an empty line repeats. */
@@ -35,6 +37,9 @@ function countedIn(command, [number, until, ...condition]) {
 const HEARS_EVERY = 50;
 /** The commands that write a file, with what stands after their first word. */
 const WRITING = /^ *(?:transcript|(?:copy|punch|save)(?:-\S+)?) +(.*?) *$/;
+
+/** How a reply ends that says of no step what put a word where it is. */
+const UNKNOWN = ", changed by no kept step\n";
 
 /** A question about an order that no session has had, whose refusal says how many there were. */
 const BEYOND = "at 9999999999 panel-data";
@@ -58,6 +63,7 @@ export class Front {
     #views;
     #helper;
     #long;
+    #earlier;
     #editing;
     #source = null;
     /** The transcript at the order that was gone to last. */
@@ -92,7 +98,9 @@ export class Front {
         this.#views = new Views(ask, hasColour);
         this.#helper = new Help(ask, OWN, () => engine.openBeside(), () => this.#isNarrow);
         const type = (line) => this.#type(line);
-        this.#long = new LongLines({ type, isInterrupted: () => keyboard.isInterrupted, write, draw: this.#draw });
+        const isInterrupted = () => keyboard.isInterrupted;
+        this.#long = new LongLines({ type, isInterrupted, write, draw: this.#draw });
+        this.#earlier = new Earlier({ engine, isInterrupted, draw: this.#draw, askLong: (line) => this.#askLong(line) });
         this.#editing = new Editing({ keyboard, note: (text) => this.#note(text), keep: (lines) => this.#keepLeft(lines) });
     }
 
@@ -225,21 +233,26 @@ export class Front {
 
     /** Whether a line would lose something and has not been typed twice; then that is said. */
     async #isDoubted(line) {
+        const isPuttingAway = await this.#putsAway(wordsOf(meantBy(line)));
         // what cannot be kept is found out before it is put away
-        if (PUTTING_AWAY.includes(wordsOf(line)[0])) await this.#keepTranscript();
-        const why = this.#doubted === line ? null : this.#lossBy(line);
+        if (isPuttingAway) await this.#keepTranscript();
+        const why = this.#doubted === line ? null : this.#lossBy(line, isPuttingAway);
         this.#doubted = why === null ? null : line;
         if (why !== null) this.#note(`${why}; the same line again does it`);
         return why !== null;
     }
 
+    /** Whether a line puts the session away. */
+    async #putsAway([command, ...operands]) {
+        return PUTTING_AWAY.includes(command) || (command === "back" && (operands[0] === "to" || this.#isFar(operands)));
+    }
+
     /** What a line would lose; null where that is nothing. */
-    #lossBy(line) {
+    #lossBy(line, isPuttingAway) {
         const name = WRITING.exec(line)?.[1];
         const isOthers = name !== undefined && this.#written.isOthers(name);
         if (isOthers) return `${name} is there, and was not written in this session: it would be replaced`;
-        const [command] = wordsOf(line);
-        const isLost = PUTTING_AWAY.includes(command) && this.#shelf.trouble !== null && this.#shelf.lines.length > 0;
+        const isLost = isPuttingAway && this.#shelf.trouble !== null && this.#shelf.lines.length > 0;
         return isLost ? `nothing of this session is kept, ${this.#shelf.trouble}: it would be lost` : null;
     }
 
@@ -262,6 +275,8 @@ export class Front {
         if (command === "step") return isStep ? null : () => this.#refuse(command, `${operands[0]} is not a number`);
         if (command === "until") return operands.length > 0 ? null : () => this.#refuse(command, "what to wait for is missing");
         const works = {
+            paper: operands.length === 0 ? null : () => this.#typedPaper(operands[0]),
+            finish: () => this.#finish(),
             look: async () => this.#note((await this.#views.look()).join("\n")),
             around: () => this.#around(...operands),
             change: () => this.#change(operands, rest),
@@ -286,6 +301,8 @@ export class Front {
         if (form === "source 0") return () => (this.#source = []);
         if (form === "new 0") return () => this.#beginAnew(line);
         if (command === "to" && operands.length > 0) return () => this.#goTo(line);
+        if (command === "back") return () => this.#back(line, operands);
+        if (form === "why 1") return () => this.#why(line, operands[0]);
         if (["help 0", "help 1"].includes(form)) return () => this.#help(line, operands[0]);
         if (form === "go 1") return () => this.#go(line);
         if (form === "press 1") return () => this.#press(line);
@@ -315,6 +332,14 @@ export class Front {
         if (!isCount) return this.#say("? 1 Form: around ttss NUMBER, at most 64\n");
         const [{ address: middle }] = heldOf(told);
         this.#note((await this.#views.around(middle, Number(count))).join("\n"));
+    }
+
+    /** The typewriter's paper with what was typed between what was printed. */
+    async #typedPaper(word) {
+        if (word !== "typed") return this.#refuse("paper", `${word} is not typed`);
+        const mark = (keys) => (this.#hasColour ? `\x1b[31m${keys}\x1b[0m` : `<${keys}>`);
+        const paper = await this.#found(() => this.#earlier.typedPaper(mark));
+        if (paper !== null) this.#note(`paper ${paper.printed} typed ${paper.typed}\n${paper.text}`);
     }
 
     // ---- lines of the monitor
@@ -355,6 +380,20 @@ export class Front {
             this.#write(`${INDENT}${line}\n`);
             this.#say(reply);
         }
+    }
+
+    /** Runs until the subroutine that is under way returns. */
+    async #finish() {
+        const NONE = {};
+        const call = await this.#found(async () => (await this.#earlier.call()) ?? NONE);
+        if (call === null) return;
+        if (call === NONE) return this.#refuse("finish", "no subroutine is under way: no r was performed whose u was not");
+        const [{ order }] = heldOf(await this.#engine.ask(`json show-data ${call.address} 1`));
+        if (order === null) return this.#refuse("finish", `the word at ${call.address}, whose address r has stored, is no order now`);
+        const line = meantBy(`until ${wordsOf(order)[1]}`);
+        const place = call.place === null ? "in the instruction register" : `at ${call.place}`;
+        this.#note(`${INDENT}called by r ${place}; it returns by ${order} at ${call.address}`);
+        await this.#monitorWork(line, wordsOf(line))();
     }
 
     /** Types a line and shows what is answered, and what there is to say about a stop. */
@@ -425,9 +464,13 @@ export class Front {
     /** The same; its reply, or null where it was taken back. */
     async #saidPatiently(line, type) {
         const reply = await this.#typeStoppably(line, (progress) => progress.showTime(), type);
-        if (reply === null) this.#note(`${INDENT}stopped by Ctrl-C before it was done; ${TAKEN}`);
+        if (reply === null) this.#noteTakenBack();
         else this.#say(reply);
         return reply;
+    }
+
+    #noteTakenBack() {
+        this.#note(`${INDENT}stopped by Ctrl-C before it was done; ${TAKEN}`);
     }
 
     /** The reply to a line, which is kept where nothing else is said; null where Ctrl-C has taken it back. */
@@ -454,6 +497,31 @@ export class Front {
             await listening;
             progress.clear();
         }
+    }
+
+    /** The reply to a question that may take long; null where Ctrl-C has stopped it. */
+    #askLong(line) {
+        return this.#typeStoppably(line, (progress) => progress.showTime(), (options) => this.#engine.type(line, options));
+    }
+
+    /** What a search of what was done earlier finds; null where Ctrl-C has stopped it, which is said. */
+    async #found(search) {
+        try {
+            return await search();
+        } catch (failure) {
+            if (!(failure instanceof Interrupted)) throw failure;
+            this.#noteTakenBack();
+            return null;
+        }
+    }
+
+    /** What put a word where it is, by the kept steps, or else over the whole session. */
+    async #why(line, address) {
+        const reply = await this.#type(line);
+        if (!reply.endsWith(UNKNOWN)) return this.#say(reply);
+        const [record] = recordsOf(await this.#engine.ask(`json why-data ${address}`));
+        const origin = await this.#found(() => this.#earlier.origin(record.get("address")));
+        this.#say(origin === null ? reply : `${reply.slice(0, -UNKNOWN.length)}, ${origin.says}\n`);
     }
 
     // ---- sessions
@@ -493,21 +561,74 @@ export class Front {
         if (source !== null && isDone) this.#openAgain(source);
     }
 
+    /** Goes to the beginning of an order by `to`. */
+    #goTo(line) {
+        return this.#leaveBy("to", [], () => this.#come(line));
+    }
+
+    /** The reply to a line that goes to the beginning of an order; null where Ctrl-C has stopped it. */
+    #come(line) {
+        return this.#saidPatiently(line, (options) => this.#engine.type(line, options));
+    }
+
     /** Goes to the beginning of an order. The session that is left is put away, unless all that it did was to go to one. */
-    async #goTo(line) {
+    async #leaveBy(command, operands, go) {
         const before = await this.#engine.ask("transcript");
-        const reply = await this.#saidPatiently(line, (options) => this.#engine.type(line, options));
+        const reply = await go();
         if (reply === null || isRefusal(reply)) return;
         if (this.#came !== before) this.#putAway();
         this.#came = await this.#engine.ask("transcript");
-        this.#ahead.answered("to", [], reply, before, this.#came);
+        this.#ahead.answered(command, operands, reply, before, this.#came);
         this.#shelf.keepSession(this.#came);
     }
 
-    /** Tells how much lies behind: all can be gone back to, and it takes as long as it took. */
+    /** Whether `back` goes over more orders than those of which steps are kept. */
+    async #isFar([orders, ...others]) {
+        return isNumber(orders) && others.length === 0 && Number(orders) > await this.#earlier.kept();
+    }
+
+    /** Goes back over orders, also over more than those of which steps are kept. */
+    async #back(line, operands) {
+        if (operands[0] === "to") return this.#backToWhy(operands);
+        if (!(await this.#isFar(operands))) return this.#answer(line);
+        await this.#leaveBy("back", operands, () => this.#comeFar(Number(operands[0])));
+    }
+
+    /** Goes back to the order that put a word where it is. */
+    async #backToWhy([, why, address]) {
+        if (why !== "why" || address === undefined) return this.#refuse("back", "after to comes why, and an address");
+        const told = await this.#engine.ask(`json why-data ${address}`);
+        if (isRefusal(told)) return this.#say(told);
+        const [record] = recordsOf(told);
+        if (record.get("changed-by") === "order") return this.#answer(`back ${record.get("by-ago")}`);
+        const isHand = record.get("changed-by") === "hand";
+        const found = () => this.#earlier.origin(record.get("address"));
+        const origin = isHand ? { says: "put there by hand", number: null } : await this.#found(found);
+        if (origin?.number === null) this.#note(`no order to go back to: the word at ${record.get("address")} was ${origin.says}`);
+        else if (origin !== null) await this.#leaveBy("back", [origin.back], () => this.#comeTo(origin.number));
+    }
+
+    /** The reply to going so many orders back; null where Ctrl-C has stopped it, or there are fewer, which is said. */
+    async #comeFar(orders) {
+        const way = await this.#found(() => this.#earlier.way());
+        const order = way?.numberBack(orders) ?? null;
+        if (order !== null) return this.#comeTo(order);
+        if (way !== null) this.#say(`? 7 TooFar ${way.orders}: only this many orders led here since the session began\n`);
+        return null;
+    }
+
+    /** The reply to going back to the order of a number; null where Ctrl-C has stopped it. Sources and rules stay, as with each `back`. */
+    async #comeTo(order) {
+        const lines = linesIn(await this.#engine.ask("transcript"));
+        const reply = await this.#come(`to ${order}`);
+        if (reply !== null) await this.#earlier.typeBesideMachine(lines);
+        return reply;
+    }
+
+    /** Tells how much was done earlier: all can be gone back to, and it takes as long as it took. */
     async #past() {
-        const reply = await this.#typeStoppably(BEYOND, (progress) => progress.showTime(), (options) => this.#engine.type(BEYOND, options));
-        if (reply === null) return this.#note(`${INDENT}stopped by Ctrl-C before it was done; ${TAKEN}`);
+        const reply = await this.#askLong(BEYOND);
+        if (reply === null) return this.#noteTakenBack();
         const transcript = await this.#engine.ask("transcript");
         const [, orders] = /^\? 7 TooFar (\d+):/.exec(reply);
         const script = `lines that lead here: ${linesIn(transcript).length}, bytes: ${transcript.length}`;
@@ -524,7 +645,7 @@ export class Front {
         const { lines, line } = this.#ahead.way(orders);
         const isWhole = await this.#doneAgain(lines, line);
         const now = await this.#engine.ask("transcript");
-        if (!isWhole) this.#putAway();
+        if (!isWhole && linesIn(now).length < lines.length) this.#putAway();
         if (this.#came === transcript) this.#came = now;
         this.#ahead.went(now, isWhole ? orders : null);
         this.#shelf.keepSession(now);
@@ -537,13 +658,19 @@ export class Front {
         try {
             await this.#engine.type("new");
             const { done } = await this.#repeat(lines);
-            if (done < lines.length) return false;
-            const reply = last === null ? "" : await this.#engine.type(last);
-            if (!isRefusal(reply)) this.#say(reply);
-            return true;
+            return done === lines.length && (last === null || await this.#goesBy(last));
         } finally {
             this.#isKept = true;
         }
+    }
+
+    /** Goes by a line to an order of what was done again; whether Ctrl-C did not stop it. */
+    async #goesBy(line) {
+        const [command, ...operands] = wordsOf(line);
+        if (command === "back" && await this.#isFar(operands)) return await this.#comeFar(Number(operands[0])) !== null;
+        const reply = await this.#engine.type(line);
+        if (!isRefusal(reply)) this.#say(reply);
+        return true;
     }
 
     /** Does lines again, and says how many; whether all of them were done. */

@@ -25,7 +25,9 @@ const STATES = [
     { lines: PREPARED, says: "after the lines that help example shows:" },
 ];
 /** Examples that are not tried: they end the program, or say something of this computer's files. */
-const UNTRIED = ["quit", "exit", "edit", "sessions", "resume", "forward", "past", "alias", "unalias", "undisplay"];
+const UNTRIED = ["quit", "exit", "finish", "edit", "sessions", "resume", "forward", "past", "alias", "unalias", "undisplay"];
+/** The group of the commands that are for programs. */
+const PROGRAMS = "programs";
 const didNothing = (reply) => linesOf(reply).some((line) => line.startsWith("ran 0 ") || line.startsWith("orders 0 "));
 
 const LAST_LINES = [
@@ -140,13 +142,20 @@ export class Help {
         return recordsOf(await this.#ask(`json ${line}`)).map((record) => Object.fromEntries(record));
     }
 
-    /** All commands, with those of the terminal in the place of the monitor's where both have one. */
+    /** All commands, with those of the terminal in the place of the monitor's where both have one. Those for programs are other ones. */
     async #commands() {
         const told = await this.#records("commands-data");
-        const own = [...this.#own].map(([command, { operands, does, example }]) => (
-            { command, group: "terminal", operands, does, example }
-        ));
-        return [...told.filter(({ command }) => !this.#own.has(command)), ...own];
+        const ownOf = (command) => {
+            const { operands, does, note, refused, example } = this.#own.get(command);
+            return { command, operands, does, note, refused, example };
+        };
+        const isElsewhere = (name) => told.some(({ group, command }) => command === name && group !== PROGRAMS);
+        return [
+            ...told.filter(({ group, command }) => group !== PROGRAMS || !this.#own.has(command)).map(
+                (each) => (this.#own.has(each.command) ? { ...ownOf(each.command), group: each.group } : each)
+            ),
+            ...[...this.#own.keys()].filter((name) => !isElsewhere(name)).map((name) => ({ ...ownOf(name), group: "terminal" })),
+        ];
     }
 
     #overview(commands) {
@@ -154,11 +163,11 @@ export class Help {
         return [...table([...groups].map(([group, those]) => [group, those.map(({ command }) => command).join(" ")])), ...LAST_LINES];
     }
 
-    async #command({ command, operands, does, refused, example }) {
+    async #command({ command, operands, does, note, refused, example }) {
         const refusal = refused === undefined ? [] : [refusedWhen(refused)];
         return [
             ...formsIn(command, operands),
-            ...indented([does, ...refusal]),
+            ...indented([does, ...(note === undefined ? [] : [note]), ...refusal]),
             ...(example === undefined ? [] : await this.#example(command, example)),
         ];
     }

@@ -1,5 +1,5 @@
 // Lines that take long, in portions: between two of them a key is heard, and what is told so far is written.
-import { STARTED, isRefusal, linesOf, metIn, ordersOf, runOf, startsOf, toldOf } from "./replies.mjs";
+import { STARTED, asUnmet, isRefusal, linesOf, metIn, ordersOf, runOf, startsOf, toldOf } from "./replies.mjs";
 import { wordsOf } from "./lines.mjs";
 import { narrowRows } from "./views.mjs";
 
@@ -49,6 +49,12 @@ export class Progress {
         if (this.#isShown) this.#write("\r\x1b[K");
         this.#isShown = false;
     }
+}
+
+/** How often a run waits for its condition, and what comes after its number where it waits once. Portions are counted together. */
+function waitedFor(more) {
+    const [, times = "0", condition] = /^ until (\d+) times (.*)$/.exec(more) ?? [];
+    return Number(times) === 0 ? { left: 1, once: more } : { left: Number(times), once: ` until ${condition}` };
 }
 
 /** A run that is told in portions ends with the line of its last one, which has the orders of all. */
@@ -134,21 +140,26 @@ export class LongLines {
         const progress = new Progress(this.#draw);
         this.wasStopped = false;
         let [done, portion, reply] = [0, FIRST_PORTION, ""];
+        const { left: times, once } = waitedFor(more);
+        let left = times;
         do {
             const begun = performance.now();
             const asked = Math.min(portion, limit - done);
-            reply = await this.#type(`${command} ${asked}${more}`);
+            reply = await this.#type(`${command} ${asked}${once}`);
             if (isRefusal(reply)) break;
             const { orders, end, status } = command === "run" ? runOf(reply) : ordersOf(reply);
             done += orders;
-            if (orders < asked || (command === "run" ? end !== "limit" : ["halted", "waiting"].includes(wordsOf(status)[0]))) break;
-            if (metIn(reply)) break;
+            const isMet = metIn(reply);
+            if (isMet) left -= 1;
+            const isEnded = command === "run" ? end !== "limit" : ["halted", "waiting"].includes(wordsOf(status)[0]);
+            if (isEnded || (isMet ? left === 0 : orders < asked)) break;
             if (performance.now() - begun < PORTION_TIME) portion *= 2;
             if (show === null) progress.showOrders(done);
             else show();
         } while (done < limit && !(await this.#stops()));
         progress.clear();
-        const [first, , ...others] = reply.split(" ");
+        const told = left > 0 && metIn(reply) ? asUnmet(reply) : reply;
+        const [first, , ...others] = told.split(" ");
         return isRefusal(reply) ? reply : [first, done, ...others].join(" ");
     }
 

@@ -1,4 +1,5 @@
-// The terminal's own commands: what completes after them, their operands, what they do, and an example with what is typed before it.
+// The terminal's own commands, and those of the monitor for which it does more: what completes after them, their operands, what they do,
+// what else is to be known, when they are refused, and an example with what is typed before it.
 
 /** `takes` is what the monitor says of its own commands, and `most` is how many words may come after a command. */
 export const OWN = new Map([
@@ -9,9 +10,14 @@ export const OWN = new Map([
         does: "performs one order, or several, and shows what each did; s is short for step, c for run, b for back and ? for help",
         example: "step" }],
     ["until", { takes: "address", most: Infinity,
-        operands: "ttss, or ttss WORD, ttss = NUMBER, ttss < NUMBER, changed ttss, printed NUMBER, rows NUMBER, clock NUMBER",
+        operands: "ttss, or ttss WORD, ttss = NUMBER, ttss < NUMBER, changed ttss, printed NUMBER, rows NUMBER, clock NUMBER, NUMBER times CONDITION",
         does: "runs until the machine comes to an address, a word is as asked, or as much is printed as asked; a rule, rest or Ctrl-C stops it first",
         example: "until printed 2" }],
+    ["finish", { takes: "alone", operands: "", most: 0,
+        does: "runs until the subroutine that is under way returns",
+        note: "It returns to the address that the last r has stored, if no u at that word was performed since then. A rule, rest or Ctrl-C "
+            + "stops it first.",
+        refused: "if no r was performed since the last load, or each of those subroutines has returned", example: "finish" }],
     ["change", { takes: "address", operands: "ttss WORD, and each other form of put", most: Infinity,
         does: "puts in a word even while the machine is going, as an operator does: manual, the word, normal and start, each shown",
         example: "change value int 6 30" }],
@@ -29,6 +35,16 @@ export const OWN = new Map([
         does: "lists the sessions that were saved, the last one first", example: "sessions" }],
     ["resume", { takes: "alone", operands: "nothing, or NUMBER", most: 1,
         does: "continues the last session that was saved, or the one of a number", example: "resume" }],
+    ["paper", { takes: "alone", operands: "nothing, or typed", most: 1,
+        does: "shows the typewriter's paper; with typed, also what was typed",
+        note: "What was typed is between < and >, or in red; a code that is typed is on the paper when the machine has taken it.",
+        example: "paper" }],
+    ["why", { takes: "address", operands: "ttss", most: 1,
+        does: "says which order of the session, or which line, put a word where it is, and what was there before",
+        refused: "if there is no such address", example: "why value" }],
+    ["back", { takes: "number", operands: "nothing, or NUMBER, to why ttss", most: 3,
+        does: "goes back an order, NUMBER orders, or to the order that put a word where it is, also beyond the kept steps; Ctrl-C stops it",
+        refused: "if fewer orders led here since the session began, or no order put the word there", example: "back 1" }],
     ["past", { takes: "alone", operands: "", most: 0,
         does: "says how many orders there were since the session began",
         example: "past" }],

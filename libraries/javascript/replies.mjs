@@ -69,7 +69,7 @@ export function signedOf(digits) {
 /** A word read as a fraction from -1 to below 1. Exact: a number of JavaScript has more places. */
 export const fractionOf = (digits) => signedOf(digits) / 2 ** 31;
 
-/** A word read as a whole number with the point behind place 30: half of its bits. */
+/** A word read as a whole number with the point after place 30: half of its bits. */
 export const wholeOf = (digits) => Math.floor(signedOf(digits) / 2);
 
 /** The records of a reply for programs, an object of JSON on each line: each a value by its key. A key without a value is left out. */
@@ -154,10 +154,14 @@ export function runOf(reply) {
 }
 
 /** What is said of a run that waited for a condition. */
-const MET = new Map([["the condition is met", true], ["the condition is not met", false]]);
+const [IS_MET, IS_NOT_MET] = ["the condition is met", "the condition is not met"];
+const MET = new Map([[IS_MET, true], [IS_NOT_MET, false]]);
 
 /** Whether a run has met its condition; null where it waited for none. */
 export const metIn = (reply) => linesOf(reply).map((line) => MET.get(line.trimStart())).find((it) => it !== undefined) ?? null;
+
+/** The reply of a run whose condition was met, but not as often as was waited for. */
+export const asUnmet = (reply) => reply.replace(IS_MET, IS_NOT_MET);
 
 /** What stands before the number of starts in a reply of `operate`. */
 export const STARTED = "started again at a z after a p: ";

@@ -38,15 +38,9 @@ async function ruleLines(ask, command, reply) {
 
 /** What goes farther back than the orders that are kept; nothing where no others were performed. */
 async function fartherBack(ask, reply) {
-    const kept = /^\? (?:7 TooFar|8 NoHit) (\d+):/.exec(reply)?.[1];
+    const kept = /^\? 8 NoHit (\d+):/.exec(reply)?.[1];
     if (kept === undefined || isRefusal(await ask(`at ${Number(kept) + 1} panel-data`))) return [];
     return ["earlier orders are not kept: to NUMBER and to last CONDITION go to the beginning of any order of this session"];
-}
-
-/** What finds the order that changed a word, where no step that is kept did. */
-function earlierChange(reply) {
-    const address = /^(\d{4})[^:]*:.*, changed by no kept step$/m.exec(reply)?.[1];
-    return address === undefined ? [] : [`to last changed ${address} goes to the order that changed it last, if one did`];
 }
 
 /** What is said below a reply. */
@@ -54,9 +48,8 @@ export async function saidOfStop(ask, command, reply, standstill) {
     if (command === "run" && reply.startsWith("ran 0 rest\n")) return [await standstill()];
     const isWithoutRules = command === "last" && reply.startsWith("? 8 ") && (await ask("json rules-data")) === "";
     if (isWithoutRules) return ["there are no rules: break and watch add one"];
-    if (command === "back" || command === "last" && isRefusal(reply)) return fartherBack(ask, reply);
+    if (command === "last" && isRefusal(reply)) return fartherBack(ask, reply);
     if (command === "load" && !isRefusal(reply)) return loadedLines(ask);
-    if (command === "why") return earlierChange(reply);
     return ruleLines(ask, command, reply);
 }
 

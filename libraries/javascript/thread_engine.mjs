@@ -1,7 +1,7 @@
 // What answers the lines of a person at a terminal by the module, in a thread beside the terminal's.
 import { Worker } from "node:worker_threads";
 import { Stopped } from "./engines.mjs";
-import { NoMemory } from "./session.mjs";
+import { NoMemory, Session } from "./session.mjs";
 import { TextSession } from "./text_session.mjs";
 
 /** What node says where a thread has used up its memory. */
@@ -107,6 +107,11 @@ export class ThreadEngine {
     openBeside() {
         const beside = new TextSession(this.#openBeside());
         return { type: async (line) => beside.answer(line), close: async () => {} };
+    }
+
+    /** Another laboratory with as much room, in which the lines of this one can be done again. */
+    openAgain() {
+        return new TextSession(new Session(this.#module, this.#region));
     }
 
     async close() {

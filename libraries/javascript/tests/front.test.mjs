@@ -1,53 +1,8 @@
 // A sitting by a keyboard that types by itself: what its faults do, and what it asks of the laboratory.
 import assert from "node:assert/strict";
-import { mkdtempSync, readFileSync, readdirSync, rmSync } from "node:fs";
-import { tmpdir } from "node:os";
-import { join } from "node:path";
 import { test } from "node:test";
-import { Aliases } from "../aliases.mjs";
-import { ModuleEngine } from "../engines.mjs";
-import { Front } from "../front.mjs";
-import { END } from "../keyboard.mjs";
-import { NoMemory, Session, compiled } from "../session.mjs";
-import { Shelf } from "../shelf.mjs";
-
-const module = compiled(readFileSync(new URL("../lgp_c_region.wasm", import.meta.url)));
-const open = () => new Session(module, 2 ** 22);
-
-/**
- * What is shown while lines are typed to an engine that may be spoiled, the questions that were asked of it, and the sessions that are
- * kept.
- */
-async function sat(lines, spoil = () => {}) {
-    const folder = mkdtempSync(join(tmpdir(), "front-"));
-    const engine = new ModuleEngine(open(), open);
-    const asked = [];
-    const { ask, type } = engine;
-    engine.ask = (line) => {
-        asked.push(line);
-        return ask.call(engine, line);
-    };
-    engine.type = (line, ...rest) => {
-        spoil(line);
-        return type.call(engine, line, ...rest);
-    };
-    const left = [...lines];
-    const keyboard = { isInterrupted: false, hasEnded: false, line: async () => left.shift() ?? END };
-    let shown = "";
-    const write = (text) => (shown += text);
-    const shelf = new Shelf(folder);
-    const front = new Front({
-        engine, keyboard, shelf, aliases: new Aliases(join(folder, "aliases")), write, hasColour: false, isPlain: false, columns: () => 100,
-    });
-    try {
-        await front.sit();
-        return {
-            shown, asked, kept: readdirSync(join(folder, "sessions")).map((name) => readFileSync(join(folder, "sessions", name), "utf8")),
-        };
-    } finally {
-        rmSync(folder, { recursive: true });
-    }
-}
+import { NoMemory } from "../session.mjs";
+import { sat } from "./sat.mjs";
 
 test("a fault of the terminal's own is told in one line, and the next line is answered", async () => {
     const { shown, kept } = await sat(["turn 5", "turn 6", "turn 7"], (line) => {

@@ -54,6 +54,20 @@ test("the loop of these tests does not end by itself", () => {
     assert.match(atOnce("drum 3333", ...LOOP).text, /\nran 3333 limit\n/);
 });
 
+test("a run that waits for a condition to be met a number of times", async () => {
+    for (const limit of [0, 7, 11, 100_001, 400_000]) {
+        for (const until of ["3 times first", "1 times first", "0 times first", "2 times 0005", "30001 times changed value", "50000 times value = 5"]) {
+            for (const lines of [[], LOOP, [...LOOP, "break 0003"]]) {
+                assert.deepEqual(
+                    await inPortions((long) => long.run("run", limit, ` until ${until}`), ...lines),
+                    atOnce(`run ${limit} until ${until}`, ...lines),
+                    `run ${limit} until ${until} ${lines}`
+                );
+            }
+        }
+    }
+});
+
 test("runs, and runs that are started again", async () => {
     for (const limit of [1, 4, 1000, 1001, 2500]) {
         for (const lines of [[], LOOP, HAND("put 0005 z"), ["break 0003"], HAND("put 0005 u 0007")]) {

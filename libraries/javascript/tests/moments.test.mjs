@@ -6,19 +6,10 @@ import { test } from "node:test";
 import { Laboratory, Refusal } from "../laboratory.mjs";
 import { startsOf } from "../replies.mjs";
 import { compiled } from "../session.mjs";
+import { chance } from "./chance.mjs";
 
 const module = await compiled(readFileSync(new URL("../lgp_c_region.wasm", import.meta.url)));
 const [SESSIONS, LINES, FEW, MOMENTS] = [8, 40, 12, 20];
-
-/** Numbers that look as if by chance, the same for each seed. */
-function chance(seed) {
-    let state = seed >>> 0;
-    const next = () => {
-        state = (Math.imul(state, 1_664_525) + 1_013_904_223) >>> 0;
-        return state / 2 ** 32;
-    };
-    return { below: (count) => Math.floor(next() * count), of: (things) => things[Math.floor(next() * things.length)] };
-}
 
 const ORDERS = "zbyrdnmpieuthacs".split("");
 const BUTTONS = [

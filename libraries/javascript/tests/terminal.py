@@ -306,6 +306,19 @@ def a_script_that_is_typed():
     assert terminal.status() == 0
 
 
+def faulty_source(laboratory, variables):
+    source = pathlib.Path(SCRATCH, "faulty.source")
+    source.write_text(" z\n q two\n end\n")
+    reason = (f"{source}:2:  q two\n    UnknownOrder\n             q two\n             ^\n"
+              "            there is no such operation: write one of the sixteen letters, -t, word, frac, int, org or end\n")
+    for words, told in [(["asm", source], ""), (["asm", "--verbose", source], reason), (["--verbose", "asm", source], reason)]:
+        call = subprocess.run([laboratory, *words], env=variables, capture_output=True, text=True, check=False)
+        assert (call.returncode, call.stdout, call.stderr[-len(reason):]) == (1, "line 2 UnknownOrder\n", told), call
+    terminal = Terminal(["bash", "-c", f"exec 2>&1; {laboratory} asm {source}"], CONDUGWA_RUN=variables["CONDUGWA_RUN"])
+    terminal.shown(f"line 2 UnknownOrder\n{reason}")
+    assert terminal.status() == 1
+
+
 def refusals_of_a_script():
     script = pathlib.Path(SCRATCH, "refused.txt")
     script.write_text("turn 5\nput 0001 00000001\nput 0001 z\n")
@@ -328,6 +341,7 @@ def refusals_of_a_script():
         terminal = Terminal(["bash", "-c", f"exec 2>&1; {laboratory} {words}"], CONDUGWA_RUN=variables["CONDUGWA_RUN"])
         terminal.shown(f"{replies}{reasons(name)}")
         assert terminal.status() == 1
+    faulty_source(laboratory, variables)
     source = subprocess.run([laboratory, "asm", "-"], env=variables, input=" z\n end\n", capture_output=True, text=True, check=False)
     assert source.stdout == "0000 00000000  z\n               end\n", source
     folder = subprocess.run([laboratory, "script", SCRATCH], env=variables, capture_output=True, text=True, check=False)

@@ -156,6 +156,24 @@ def what_was_gone_back_over_is_gone_forward_to():
     left(terminal)
 
 
+def a_subroutine_is_finished():
+    terminal = begun()
+    shown = terminal.type("fini\t", "finish ")
+    shown = terminal.type("\r", BEGUN)
+    assert "? 1 Form: finish: no subroutine is under way: no r was performed whose u was not\n" in shown, shown
+    terminal.type("source\rfirst r exit\r u sub\r z\rsub b one\r a one\rexit u first\rone int 1 30\r end first\r.\rload\r", "0000 going> ")
+    terminal.type("run 3\r", "going> ")
+    terminal.type("break exit\r", "rule 0\n0004 going> ")
+    called = "        called by r at 0000; it returns by u 0002 at 0005\n"
+    shown = terminal.type("finish\r", "0005 going> ")
+    assert f"{called}ran 1 rule 0\n        the condition is not met\n        rule 0: break 0005 exit\n" in shown, shown
+    shown = terminal.type("finish\r", "0002 going> ")
+    assert f"{called}ran 1 limit\n        the condition is met\n" in shown, shown
+    shown = terminal.type("transcript\r", "going> ")
+    assert "load\nrun 3\nbreak 0005\nrun 1\nrun 1\n0002" in shown, shown
+    left(terminal)
+
+
 def why_nothing_is_done():
     terminal = begun()
     for line in ("run", "run 3", "c 5", "run 500000"):
@@ -164,7 +182,7 @@ def why_nothing_is_done():
     shown = terminal.type("last\r", BEGUN)
     assert "        there are no rules: break and watch add one\n" in shown, shown
     shown = terminal.type("b 5\r", BEGUN)
-    assert shown.endswith(f"? 7 TooFar 0: only this many orders are kept\n{BEGUN}"), shown
+    assert shown.endswith(f"? 7 TooFar 0: only this many orders led here since the session began\n{BEGUN}"), shown
     terminal.type("source\rfoo z\r end\r.\r", BEGUN)
     shown = terminal.type("load\r", "stop> ")
     assert "loaded 23\n        the source has no start: go with an address or a label starts it\n" in shown, shown
@@ -178,13 +196,31 @@ def what_goes_farther_back_is_told():
     for line in ("put 0000 u 0000", "go 0000", "run 5000", "break 0001"):
         terminal.type(f"{line}\r", "> ")
     shown = terminal.type("why 0000\r", "> ")
-    assert "changed by no kept step\n        to last changed 0000 goes to the order that changed it last, if one did\n" in shown, shown
+    assert "0000: 000f0000 u 0000 = 327680, put there by hand, clock 0; before it was z 0000\n" in shown, shown
     told = "        earlier orders are not kept: to NUMBER and to last CONDITION go to the beginning of any order of this session\n"
-    for line, refused in (("b 4097", "? 7 TooFar 4096: only this many orders are kept\n"),
-                          ("last", "? 8 NoHit 4096: this many orders are kept, and no rule hits any of them\n")):
-        shown = terminal.type(f"{line}\r", "going> ")
-        assert refused + told in shown, shown
+    shown = terminal.type("last\r", "going> ")
+    assert "? 8 NoHit 4096: this many orders are kept, and no rule hits any of them\n" + told in shown, shown
     assert told not in terminal.type("b 4096\r", "going> ")
+    left(terminal)
+
+
+def what_is_gone_back_to_beyond_the_kept_steps():
+    terminal = begun()
+    for line in ("put 0000 u 0000", "press start", "run 5000", "break 0001"):
+        terminal.type(f"{line}\r", "> ")
+    shown = terminal.type("b 4097\r", "going> ")
+    assert "order 903 clock 57795\nthe session before this one was saved: resume continues it\n" in shown, shown
+    shown = terminal.type("transcript\r", "going> ")
+    assert shown == "transcript\nput 0000 000f0000\npress start\norders 903\nbreak 0001\n0000 going> ", shown
+    shown = terminal.type("b 904\r", "going> ")
+    assert "? 7 TooFar 903: only this many orders led here since the session began\n" in shown, shown
+    terminal.type("forward\r", "going> ")
+    shown = terminal.type("past\r", "going> ")
+    assert "orders since the session began: 5000;" in shown, shown
+    terminal.type("b t\t", "to ")
+    terminal.type("wh\t", "why ")
+    shown = terminal.type("0000\r", "going> ")
+    assert "no order to go back to: the word at 0000 was put there by hand, clock 0; before it was z 0000\n" in shown, shown
     left(terminal)
 
 
@@ -193,7 +229,7 @@ def own_lines_are_refused_by_their_forms():
     for line, refusal in [
             ("resume x", "resume or resume NUMBER: x is not the number of a session; sessions lists them"), ("resume 1 2", "resume or resume NUMBER: 2 is a word too many"),
             ("around 0000 2 3", "around or around ttss or around ttss NUMBER: 3 is a word too many"), ("step x", "step or step NUMBER: x is not a number"),
-            ("until", "until ttss or until ttss WORD or until ttss = NUMBER or until ttss < NUMBER or until changed ttss or until printed NUMBER or until rows NUMBER or until clock NUMBER: what to wait for is missing"),
+            ("until", "until ttss or until ttss WORD or until ttss = NUMBER or until ttss < NUMBER or until changed ttss or until printed NUMBER or until rows NUMBER or until clock NUMBER or until NUMBER times CONDITION: what to wait for is missing"),
             ("look 1", "look: 1 is a word too many"), ("sessions 1", "sessions: 1 is a word too many"), ("unalias", "unalias NAME: a name is missing"),
             ("change 0000", "change ttss WORD, and each other form of put: a word is missing"), ("edit 5", "edit or edit NUMBER or edit FILE: there is no source yet"),
             ("put-listing", "column 12: a line of a listing begins with an address, two digits for the track and two for the sector"),
@@ -307,6 +343,9 @@ def what_is_completed_besides():
     terminal.type(CTRL_C, BEGUN)
     terminal.type("json trace-data 00\t", "0000")
     terminal.type(CTRL_C, BEGUN)
+    terminal.type("paper ty\t", "typed")
+    shown = terminal.type("\r", BEGUN)
+    assert "\npaper 0 typed 0\n" in shown, shown
     terminal.type("source\r", "source> ")
     terminal.type("looping b looping\r", "source> ")
     terminal.type(" wo\t", "word ")
@@ -359,5 +398,5 @@ def files_that_are_replaced():
     left(terminal)
 
 
-CHECKS = [what_is_pasted_is_text, a_stop_is_told, a_run_ends_where_a_condition_is_met, what_was_gone_back_over_is_gone_forward_to, why_nothing_is_done, what_goes_farther_back_is_told, own_lines_are_refused_by_their_forms, words_that_are_displayed_and_changed, short_names, a_source_that_is_edited,
+CHECKS = [what_is_pasted_is_text, a_subroutine_is_finished, a_stop_is_told, a_run_ends_where_a_condition_is_met, what_was_gone_back_over_is_gone_forward_to, why_nothing_is_done, what_goes_farther_back_is_told, what_is_gone_back_to_beyond_the_kept_steps, own_lines_are_refused_by_their_forms, words_that_are_displayed_and_changed, short_names, a_source_that_is_edited,
           a_source_that_is_edited_by_lines, what_is_completed_besides, files_that_are_replaced]

@@ -58,6 +58,19 @@ def a_long_account_is_written_as_it_is_made():
         left(terminal)
 
 
+def a_way_back_is_stopped():
+    terminal = going()
+    terminal.type("orders 60000000\r", "going> ")
+    clock, script = clock_of(terminal), terminal.type("transcript\r", "going> ")
+    # while the prompt looks for the order, and while it goes there
+    for line, wait in (("back 50000000", "seconds: 0 (Ctrl-C"), ("back 50000000", "seconds: 1 (Ctrl-C"), ("back to why 0000", "seconds: 0 (Ctrl-C")):
+        terminal.raw(f"{line}\r", wait)
+        terminal.type(CTRL_C, TAKEN_BACK)
+        assert clock_of(terminal) == clock
+        assert terminal.type("transcript\r", "going> ") == script
+    left(terminal)
+
+
 PRINTS = "source\rfirst p =a\r z\r u first\r end first\r.\rload\r"
 
 
@@ -127,5 +140,5 @@ def a_plain_terminal_is_drawn_nothing_on():
     left(terminal)
 
 
-CHECKS = [what_has_no_portions_is_taken_back, what_has_portions_is_stopped_between_two_orders, a_long_account_is_written_as_it_is_made, operate_is_as_one_line, stopped_within_a_run,
+CHECKS = [what_has_no_portions_is_taken_back, a_way_back_is_stopped, what_has_portions_is_stopped_between_two_orders, a_long_account_is_written_as_it_is_made, operate_is_as_one_line, stopped_within_a_run,
           repeating_is_stopped, a_plain_terminal_is_drawn_nothing_on]
