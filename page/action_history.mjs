@@ -54,8 +54,8 @@ export class ActionHistory {
     /** How much was ahead that something else has taken the place of, until that is noted. */
     left = 0;
     /**
-     * What happened on the way, each at the place after an order: a `row` was printed, one of so many `rows`, a `watch`ed word has changed,
-     * a rule has made a `stop`, or a `hand` did something.
+     * What happened on the way, each at the place after an order: a `row` was printed, with how many `rows` there were then, a `watch`ed
+     * word has changed, a rule has made a `stop`, or a `hand` did something.
      */
     marks = [];
 

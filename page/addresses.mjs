@@ -35,7 +35,7 @@ export function windowAt(address, count, [first, last] = ["0000", "6363"]) {
     return addressOf(Math.max(numberOf(first), Math.min(numberOf(last) + 1 - count, numberOf(address) - Math.floor(count / 3))));
 }
 
-/** Whether an address lies among so many places from another one on. */
+/** Whether an address is one of this many places from another one on. */
 export function isAmong(address, first, count) {
     const distance = numberOf(address) - numberOf(first);
     return distance >= 0 && distance < count;

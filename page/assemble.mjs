@@ -30,22 +30,33 @@ function once(notices) {
 /** JSON with its line feeds as they are, which packs better; the page puts them back. */
 const withLineFeeds = (json) => json.replaceAll(/\\(.)/g, (whole, sign) => (sign === "n" ? "\n" : whole));
 
-/** What the page has of other files of the repository, as one text. */
+/** What CodeMirror's style has for editors of other kinds: the colours of their languages, and what lies around and over their lines. */
+const OF_OTHERS = new RegExp(
+    `[^{}]*(?:${[
+        "cm-(?:s-default|fat-cursor|tab|header|em|link|strike|negative|positive)",
+        "CodeMirror-(?:guttermarker|secondarycursor|ruler|matching|nonmatching|activeline|crosshair|linewidget|wrap|rtl)",
+    ].join("|")})[^{}]*\\{[^{}]*\\}`,
+    "g"
+);
+
+const { drawings, sheets } = sharedSheetsBelow(lessons);
+/** What the page has of other files of the repository, as one text, in the order that packs best. */
 const texts = withLineFeeds(JSON.stringify({
     examples: Object.fromEntries(scriptsBelow(shelf)),
     remarks: remarksBelow(shelf),
     sources: sourcesBelow(shelf),
-    lessons: lessonsBelow(lessons),
-    ...sharedSheetsBelow(lessons),
     tasks: tasksBelow(tasks, shelf),
+    lessons: lessonsBelow(lessons),
+    sheets,
     licences: once(text(notices)),
     exhibits: exhibitsBelow(exhibits, shelf),
+    drawings,
 }));
 const parts = {
     LACKING: inert(text(lacking)),
     SHARED: inert(text(shared)),
     BEGIN: inert(text(begin)),
-    PARTS: packedText([...[style, main, worker].map(text), texts].join("\0")),
+    PARTS: packedText([...[main, worker].map(text), text(style).replaceAll(OF_OTHERS, ""), texts].join("\0")),
     MODULE: packedModule(readFileSync(module)),
 };
 process.stdout.write(text(template).replace(/@([A-Z]+)@/g, (whole, name) => parts[name] ?? whole));

@@ -5,7 +5,7 @@ const put = (kind, text) => document.head.append(Object.assign(document.createEl
 
 // the last of the texts is left to the script, which asks for it later
 globalThis.packedTexts = globalThis.unpackedTexts(document.getElementById("parts").textContent);
-const [style, main, worker] = [1, 2, 3].map(() => globalThis.packedTexts.next().value);
+const [main, worker, style] = [1, 2, 3].map(() => globalThis.packedTexts.next().value);
 put("style", style);
 document.getElementById("worker").textContent = document.getElementById("shared").textContent + worker;
 // a task of its own, so that the browser can hear in between what was pressed

@@ -502,8 +502,8 @@ export class Controller extends EventTarget {
     }
 
     /**
-     * Lines were done as one, after what is in the history: their first order has this number, and their last run so many. Where it is not
-     * known how many there were, no others can be gone back over.
+     * Lines were done as one, after what is in the history: their first order has the number `first`, and their last run had `last` orders.
+     * Where it is not known how many there were, no others can be gone back over.
      */
     async #noteWhole(lines, first, history, last) {
         this.history = history;

@@ -67,6 +67,7 @@ function unknownPlaces(scene, { labels }) {
         ...actions.flatMap(({ to, carry }) => [to?.place, carry]),
         ...scene.captions.map(({ place }) => place),
         scene.beside?.bits,
+        scene.beside?.orders,
         scene.beside?.words,
     ];
     return [...new Set(named)].filter((place) => place !== undefined && !/^\d{4}$/.test(place) && !names.includes(place));

@@ -152,7 +152,7 @@ const BUTTON = textOr(oneOf("start", "language", "halt"), (value, path) => {
 
 const BESIDE = kindOf({
     torn: object({ torn: oneOf(true) }, ["torn"]),
-    bits: object({ bits: place }, ["bits"]),
+    bits: object({ bits: place, orders: place, count: whole(1, 12) }, ["bits"]),
     words: object(
         { words: place, count: whole(1, 24), last: matching(/^[a-z] \d{4}$/, "It has to be an order such as \"u 0000\".") },
         ["words", "count"],
@@ -203,6 +203,9 @@ function checkScene(scene, path, { scenes: all }, isExample) {
     if ((actionsOf.some(({ carry }) => carry !== undefined) || scene.buttons.some((it) => it?.bits !== undefined))
         && scene.beside?.bits === undefined) {
         refuse(`${path}.beside`, scene.beside, "A carry is shown bit by bit, so {\"bits\": ..} has to be there.");
+    }
+    if ((scene.beside?.orders === undefined) !== (scene.beside?.bits === undefined || scene.beside.count === undefined)) {
+        refuse(`${path}.beside`, scene.beside, "Orders and their count go together.");
     }
     if (!scene.buttons.some((it) => it === "start" || it?.to !== undefined)) {
         refuse(`${path}.buttons`, scene.buttons, "One of them has to lead on: \"start\", or a button with \"to\".");

@@ -108,9 +108,11 @@ function circle(costs, width, isBeside) {
     const at = (turn, radius) => (
         [radius * Math.sin(2 * Math.PI * turn), -radius * Math.cos(2 * Math.PI * turn)].map((it) => it.toFixed(1)).join(" ")
     );
+    const path = (turn, radius) => at(turn, radius).replace(" -", "-");
     const field = (sector, from, to, fill) => {
         const [begin, end] = [positionOf(sector) - 0.5, positionOf(sector) + 0.5].map((place) => place / SECTORS);
-        return `<path d="M ${at(begin, from)} L ${at(begin, to)} A ${to} ${to} 0 0 1 ${at(end, to)} L ${at(end, from)} A ${from} ${from} 0 0 0 ${at(begin, from)} Z" fill="${fill}" stroke="black" stroke-width="0.4"/>`;
+        const [sides, back] = [`M${path(begin, from)}L${path(begin, to)}A${to} ${to} 0 0 1 ${path(end, to)}L${path(end, from)}`, path(begin, from)];
+        return `<path d="${sides}A${from} ${from} 0 0 0 ${back}Z" fill="${fill}" stroke="black" stroke-width="0.4"/>`;
     };
     const least = Math.min(...(costs?.sectors ?? []).map(({ times }) => times));
     const isGood = new Set((costs?.sectors ?? []).filter(({ times }) => times === least).map(({ sector }) => sector));

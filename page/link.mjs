@@ -31,7 +31,7 @@ export class Link {
         return this.#post({ lines: [line] });
     }
 
-    /** The replies to several lines, one behind the other. */
+    /** The replies to several lines, one after another. */
     askAll(lines) {
         return this.#post({ lines });
     }

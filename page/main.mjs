@@ -490,7 +490,7 @@ function placeDoor() {
     else parts.faster?.stop();
     for (const name of isKiosk ? ["door", "window"] : ["state"]) delete document.body.dataset[name];
     if (!isKiosk || !(exhibit instanceof Running)) {
-        for (const name of ["exhibit", "beside", "scene", "busy"]) delete document.body.dataset[name];
+        for (const name of ["exhibit", "beside", "orders", "scene", "busy"]) delete document.body.dataset[name];
     }
     if (!isKiosk) { showDoor(door); arrange(); }
     placeNotices(isKiosk || door === "hall" || isPlayed ? null : document.querySelector(".tells"));
@@ -941,7 +941,7 @@ function makeRunningExhibit() {
         deck: makeShownBody(laboratory, texts, showing),
     };
     for (const node of [made.drum.node, made.paper.node]) node.querySelector("h2").classList.add("unseen");
-    return makeRunning(laboratory, texts, exhibit, made, makeOthers());
+    return makeRunning(laboratory, texts, exhibit, made, makeOthers(), markNow);
 }
 
 /** What is at the kiosk, to be taken home: as far as it has come, or else its program before the start. */

@@ -92,7 +92,7 @@ export class MemoryBudget {
         return Array.from({ length: Math.ceil(left / size) }, (unused, at) => `orders ${Math.min(size, left - at * size)}`);
     }
 
-    /** The transcript has so many bytes now. */
+    /** The transcript has this number of bytes now. */
     holds(bytes) {
         this.#lines = bytes;
     }

@@ -283,9 +283,10 @@ export class Running extends EventTarget {
             this.#lastCounter = null;
             this.pieces.anew();
         }
-        const { bits, words, count } = beside;
+        const { bits, orders, words, count } = beside;
         laboratory.questionsToo = [
             ...(bits === undefined ? [] : [`words ${this.#addressOf(bits)} 1`]),
+            ...(orders === undefined ? [] : [`words ${this.#addressOf(orders)} ${count}`]),
             ...(words === undefined ? [] : [`show ${this.#addressOf(words)} ${count}`]),
         ];
         await laboratory.settled();

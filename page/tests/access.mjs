@@ -119,7 +119,7 @@ function disorderInPage() {
     );
     if (levels.filter((level) => level === 1).length !== 1 || levels[0] !== 1) found.push(`headings begin ${levels.slice(0, 3)}`);
     levels.forEach((level, place) => {
-        if (place > 0 && level > levels[place - 1] + 1) found.push(`heading ${place}: h${level} behind h${levels[place - 1]}`);
+        if (place > 0 && level > levels[place - 1] + 1) found.push(`heading ${place}: h${level} after h${levels[place - 1]}`);
     });
     for (const name of ["header", "main"]) if (document.querySelectorAll(name).length !== 1) found.push(`not one ${name}`);
     const walker = document.createTreeWalker(document.body, NodeFilter.SHOW_TEXT);
@@ -199,7 +199,7 @@ export async function unreached(browser) {
     return missed;
 }
 
-/** Presses each button that a selector names by the key Enter: those behind whose press the focus is lost. */
+/** Presses each button that a selector names by the key Enter: those after whose press the focus is lost. */
 export async function losesFocus(browser, selector) {
     const found = [];
     const count = await browser.value(`document.querySelectorAll(${JSON.stringify(selector)}).length`);
@@ -212,7 +212,7 @@ export async function losesFocus(browser, selector) {
         await browser.value("laboratoryOfPage().settled()");
         if (await browser.value("document.querySelector('dialog') !== null")) await browser.strike("Escape");
         await browser.value("new Promise((resolve) => requestAnimationFrame(() => setTimeout(resolve)))");
-        if (await browser.value("document.activeElement === document.body")) found.push(`the focus is lost behind ${name}`);
+        if (await browser.value("document.activeElement === document.body")) found.push(`the focus is lost after ${name}`);
     }
     return found;
 }

@@ -136,7 +136,7 @@ live("the order at the register is the one that is in it", async (laboratory) =>
     assert.deepEqual([laboratory.panel.register, laboratory.orderInRegister], ["000j0100", null]);
 });
 
-/** Goes back by so many orders and forward again: nothing is lost. */
+/** Goes back by this many orders and forward again: nothing is lost. */
 async function thereAndBack(laboratory, orders) {
     const { panel, history: { behind } } = laboratory;
     await laboratory.back(orders);

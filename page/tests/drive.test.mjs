@@ -32,7 +32,7 @@ function madeUp(orders = Infinity) {
     return { drive, done, laboratory, player };
 }
 
-test("a pace goes on for so many orders, and until the machine stands still", async () => {
+test("a pace goes on for this many orders, and until the machine stands still", async () => {
     const { drive, done } = madeUp(5);
     await drive.go("slow", 2);
     assert.deepEqual([done.orders, drive.pace], [2, null]);

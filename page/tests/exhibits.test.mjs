@@ -83,6 +83,10 @@ const MISTAKES = [
         (it) => { it.scenes.On = it.scenes.on; },
         'the name of a scene, "On", is "On". It has to be a name of small letters, digits and hyphens.',
     ],
+    [
+        (it) => { it.scenes.on.beside.orders = "start"; },
+        'scenes.on.beside is {"bits":"start","orders":"start"}. Orders and their count go together.',
+    ],
     [(it) => { it.scenes.attract.buttons[0].to = "off"; }, 'scenes.attract.buttons[0].to is "off". The scenes are attract, on.'],
     [(it) => { it.scenes.attract.buttons = []; }, "scenes.attract.buttons is []. It has to be a list of 1 to 4 buttons."],
     [(it) => { it.scenes.attract.buttons.push(null); }, /^scenes\.attract\.buttons is \[.*\.\.\. It has to be a list of 1 to 4 buttons\.$/],

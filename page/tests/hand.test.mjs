@@ -11,7 +11,7 @@ import { PLACING_GAMES, PlacingGame, PROGRAMS, roundIn } from "../placing_game.m
 
 globalThis.document ??= {};
 const { distanceOf } = await import("../views/hand.mjs");
-const { apart } = await import("../views/pins.mjs");
+const { apart, within } = await import("../views/pins.mjs");
 
 const top = join(dirname(fileURLToPath(import.meta.url)), "../..");
 const module = join(top, "libraries/javascript/lgp_c_region.wasm");
@@ -61,6 +61,14 @@ test("wherever words lie, no pin lies upon another one or upon the head", () => 
     for (const turns of [-9, -1, 1, 9]) {
         assert.ok(apart([{ name: "one", angle: 360 * turns - 2, ...size }], distanceOf).get("one") < -15, `${turns} turns`);
     }
+});
+
+test("a pin is whole in the drawing", () => {
+    const size = { width: 170, height: 60 };
+    assert.deepEqual(
+        [[40, 372], [790, 700], [400, 10], [300, 200]].map((place) => within(place, size, [800, 720])),
+        [[85, 372], [715, 690], [400, 30], [300, 200]]
+    );
 });
 
 test("a round is what lies between the last two times that the loop began", () => {

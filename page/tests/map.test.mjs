@@ -22,6 +22,8 @@ test("tracks with words are higher, and all have room", () => {
     const rows = rowsOf(Array.from({ length: 64 }, (unused, track) => track < 2), 300);
     assert.deepEqual([rows[0].height, rows[2].top], [16, 32]);
     assert.ok(Math.abs(rows[63].top + rows[63].height - 300) < 0.01);
+    const low = rowsOf(Array.from({ length: 64 }, (unused, track) => track < 2 || track === 63), 96);
+    assert.ok(low.every(({ height }) => height >= 0.75) && low[0].height === 16 && Math.abs(low[63].top + low[63].height - 96) < 0.01);
     const full = rowsOf(Array(64).fill(true), 200);
     assert.ok(full.every(({ height }) => height === 200 / 64));
 });

@@ -36,7 +36,8 @@ function textsInPage(lists, least) {
         if (text.data.trim() === "" || !isSeen(node)) continue;
         const name = `"${text.data.trim().slice(0, 24)}" in ${node.closest("[class]")?.getAttribute("class")}`;
         const size = parseFloat(getComputedStyle(node).fontSize) * scaleOf(node);
-        if (size < least - 0.05) found.push(`${name} has ${size.toFixed(1)} pixels`);
+        // the numbers on the drum alone may be smaller
+        if (size < (node.closest(".cell") === null ? least : Math.min(10, least)) - 0.05) found.push(`${name} has ${size.toFixed(1)} pixels`);
         if (node.closest(lists) !== null || node.closest("svg") !== null) continue;
         const range = document.createRange();
         range.selectNodeContents(text);
@@ -71,7 +72,7 @@ function textsInPage(lists, least) {
 }
 
 /** Texts that are too small, cut off, or beyond the window, and traces of the oscilloscope beyond their rows. */
-export const hiddenTexts = (browser, least = 10) => browser.value(`(${textsInPage})(${JSON.stringify(LISTS)}, ${least})`);
+export const hiddenTexts = (browser, least = 11) => browser.value(`(${textsInPage})(${JSON.stringify(LISTS)}, ${least})`);
 
 /** Runs in the page: controls whose middle is not hit by themselves, but those in lists that are scrolled away. */
 function unhitInPage(lists) {

@@ -6,7 +6,7 @@ const TEXT = 0x81;
 const MASKED = 0x80;
 const KINDS = { more: 0, text: 1, end: 8, ping: 9 };
 
-/** The beginning of a frame with so many bytes of text, which says their number in as few bytes as may be. */
+/** The beginning of a frame with this many bytes of text, which says their number in as few bytes as may be. */
 function headOf(length) {
     if (length < 126) return Buffer.of(TEXT, MASKED | length);
     const isShort = length < 1 << 16;

@@ -37,6 +37,9 @@ viewed("of tabs one is seen, by a press, by arrows, and after the page was laid 
     const entries = ["first", "second", "third"].map((name) => ({ name, title: name, nodes: [document.createElement("p")] }));
     const { node, set } = makeTabs("some", "some tabs");
     document.body.append(node);
+    // as long as none was chosen, the first one is seen, whichever that is
+    set([...entries].reverse());
+    assert.equal([...node.querySelectorAll(".tab-panel")].find((it) => !it.hidden).dataset.panel, "third");
     set(entries);
     const tabs = () => [...node.querySelectorAll("[role=tab]")];
     const seen = () => [...node.querySelectorAll(".tab-panel")].filter((it) => !it.hidden).map((it) => it.dataset.panel).join();

@@ -717,6 +717,8 @@ async function doors(browser) {
     // from each door to each other one
     for (const door of ["work", "look", "work", "learn", "look", "learn", "work"]) {
         await press(browser, `.doors [data-door-to="${door}"]`);
+        // in Work the map is the first tab there
+        if (door === "work") await browser.reveal(".listing");
         assert.deepEqual(
             await seenOf(
                 browser, ".hall", ".tales", ".lesson", ".flexo-body", ".telling-order", ".source", "#run-program", ".listing form"
@@ -1038,7 +1040,7 @@ async function longRun(browser) {
     return (1000 * orders) / milliseconds;
 }
 
-/** How many pictures a second the page draws, over so many milliseconds, and how far the clock at the hub went in a second of them. */
+/** How many pictures a second the page draws, over this many milliseconds, and how far the clock at the hub went in a second of them. */
 const pace = (browser, milliseconds) => browser.value(`new Promise((resolve) => {
     const hub = () => Number(document.querySelector(".hub-clock").textContent.replace(/\\D/g, ""));
     const [began, clock] = [performance.now(), hub()];
@@ -1264,7 +1266,7 @@ async function forPeople(browser) {
     await browser.media({});
 }
 
-/** At each width nothing has to be scrolled sideways, behind no door. */
+/** At each width nothing has to be scrolled sideways, in no section. */
 async function widths(browser) {
     for (const door of ["hall", "look", "learn", "work"]) {
         await browser.open(`${address}?lang=de&door=${door}`);

@@ -322,11 +322,11 @@ async function opening(browser, address) {
     if (browser.ask === undefined) return "but not measured, since this browser tells of no tasks";
     const end = await noteTasks(browser);
     const longest = {};
-    for (const behind of ["door=work#self-modifying", "story=2", "lesson=rewriting&step=13", "task=sum", "kiosk=message", "door=hall"]) {
-        await browser.open(`${address}?lang=en&${behind}`);
+    for (const query of ["door=work#self-modifying", "story=2", "lesson=rewriting&step=13", "task=sum", "kiosk=message", "door=hall"]) {
+        await browser.open(`${address}?lang=en&${query}`);
         await settled(browser);
         await pause(1500);
-        longest[behind] = await longestTask(browser);
+        longest[query] = await longestTask(browser);
     }
     await browser.value("void longTasks.splice(0)");
     await browser.press(".hall [data-door-to='work']");

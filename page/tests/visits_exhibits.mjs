@@ -68,11 +68,24 @@ const uponInHub = async (browser) => (browser.engine !== "Chromium" ? [] : brows
     return below - above < 0.95 * parseFloat(getComputedStyle(phase).fontSize) * phase.getScreenCTM().a ? [order.textContent + " lies upon " + phase.textContent] : [];
 })()`));
 
+/** The pins of the drum that reach beyond its cabinet. */
+const pinsBeyond = (browser) => browser.value(`(() => {
+    const { left, top, right, bottom } = document.querySelector(".cabinet").getBoundingClientRect();
+    return [...document.querySelectorAll(".pin:not(.away) .flag")].map((it) => [it.textContent, it.getBoundingClientRect()])
+        .filter(([, box]) => box.width > 0 && (box.left < left || box.top < top || box.right > right || box.bottom > bottom))
+        .map(([name]) => name + " reaches beyond the cabinet");
+})()`);
+
 /** What is seen now has all its texts whole and large enough, each button is hit, and nothing is to be scrolled. */
 async function assertSeen(browser, what) {
     await laidOut(browser);
     assert.deepEqual(
-        [...await hiddenTexts(browser), ...await unhit(browser), ...await smallTexts(browser), ...await uponInHub(browser)], [], what
+        [
+            ...await hiddenTexts(browser), ...await unhit(browser), ...await smallTexts(browser), ...await uponInHub(browser),
+            ...await pinsBeyond(browser),
+        ],
+        [],
+        what
     );
     assert.deepEqual(
         await browser.value(
@@ -132,6 +145,15 @@ async function loop(browser, address, press, code, size, pictures) {
     assert.equal(await browser.value("document.querySelectorAll('.kiosk-bar .primary').length"), 0);
     for (const it of [size, [1366, 768]]) { await browser.size(...it); await assertSeen(browser, `rounds at ${it}`); }
     await browser.size(...size);
+    // the orders of the loop, of which one is under way
+    assert.deepEqual(
+        await browser.value("[...document.querySelectorAll('.orders-beside tr')].map((it) => [it.dataset.address, it.cells[1].textContent])"),
+        [
+            ["0038", "b common"], ["0039", "e 6353"], ["0040", "h common"], ["0041", "b loop"], ["0042", "a last"], ["0043", "h loop"],
+            ["0044", "u round"],
+        ]
+    );
+    assert.equal(await browser.value("document.querySelectorAll('.orders-beside [aria-current=step]').length"), 1);
     await press(browser, 3);
     await browser.waitFor(`${isIn("carry")} && document.querySelector('.bit.now') !== null`, LONG);
     await press(browser, 2);
@@ -139,6 +161,11 @@ async function loop(browser, address, press, code, size, pictures) {
     await press(browser, 2);
     await browser.waitFor(`document.querySelector('.word-bits').getAttribute('aria-label') !== ${JSON.stringify(seen)}`);
     await moment(browser, pictures, `loop-${code}-${size[0]}`);
+    // below the bits are the way of the carry, and a ring where it is; the order is as it was as long as it has not come to its end
+    const [bit, ring, passed, order] = await browser.value(
+        "(() => { const of = (name) => [...document.querySelectorAll('.word-bits ' + name)]; return [of('.bit').findIndex((it) => it.matches('.now')), of('.carry i').findIndex((it) => it.matches('.ring')), of('.carry i').filter((it) => it.textContent === '‹').length, document.querySelector('.orders-beside tr:nth-child(2)').cells[1].textContent]; })()"
+    );
+    assert.deepEqual([ring, passed, order], [bit, 17 - bit, "e 6363"]);
     await assertSeen(browser, "carry");
     await press(browser, 3);
     await browser.waitFor(`${isDone("end")} && laboratoryOfPage().panel.status === "halted stop"`, LONG);

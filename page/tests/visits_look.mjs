@@ -294,9 +294,9 @@ async function quietAtFirst(browser, address) {
     if (browser.preload === undefined) return "but not looked at, since this browser's page cannot be changed before it begins";
     const release = await browser.preload(HOLDS_BACK);
     try {
-        for (const behind of ["door=hall", "story=1", "door=work#self-modifying", "kiosk=message", "game=faster"]) {
+        for (const query of ["door=hall", "story=1", "door=work#self-modifying", "kiosk=message", "game=faster"]) {
             await browser.navigate("about:blank");
-            await browser.navigate(`${address}?lang=de&${behind}`);
+            await browser.navigate(`${address}?lang=de&${query}`);
             await browser.waitFor("isHeldBack()");
             await laidOut(browser);
             assert.deepEqual(
@@ -304,7 +304,7 @@ async function quietAtFirst(browser, address) {
                     `[...document.querySelectorAll(${JSON.stringify(TELLS)})].filter((it) => it.textContent.trim() !== "" && it.checkVisibility({ visibilityProperty: true })).map((it) => it.textContent)`
                 ),
                 [],
-                behind
+                query
             );
             const placesNow = async () => [
                 ...await boxes(browser),
@@ -318,7 +318,7 @@ async function quietAtFirst(browser, address) {
                 "document.documentElement.dataset.ready === 'true' && [...document.querySelectorAll('.faster[aria-busy=true]')].every((it) => !it.checkVisibility())"
             );
             const after = new Set(await placesNow());
-            assert.deepEqual(before.filter((it) => !after.has(it)), [], behind);
+            assert.deepEqual(before.filter((it) => !after.has(it)), [], query);
         }
     } finally {
         await release?.();

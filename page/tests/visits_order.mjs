@@ -147,8 +147,8 @@ const DOORS = {
 async function orderUnderWay(browser, address) {
     let pictures = 0;
     await browser.size(1366, 768);
-    for (const [door, [behind, goes]] of Object.entries(DOORS)) {
-        await browser.open(address + behind);
+    for (const [door, [query, goes]] of Object.entries(DOORS)) {
+        await browser.open(address + query);
         await settled(browser);
         await browser.value(`void ${WATCH}`);
         await goes(browser);

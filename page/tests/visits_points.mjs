@@ -33,27 +33,27 @@ const clipped = (browser) => browser.value(`[...document.querySelectorAll("#page
     return [];
 })`);
 
-/** No control and no drawing is cut off by what it is in, behind no door and at no size; the tape's holes are seen. */
+/** No control and no drawing is cut off by what it is in, in no section and at no size; the tape's holes are seen. */
 async function nothingClipped(browser, address) {
-    for (const behind of [
+    for (const query of [
         "?lang=de&door=hall",
         "?lang=de&door=work#input-and-output/checksum",
         "?lang=de&lesson=rewriting",
         "?lang=de&task=sum",
         "?lang=de&story=2",
     ]) {
-        await browser.open(address + behind);
+        await browser.open(address + query);
         await settled(browser);
         for (const [width, height] of SIZES) {
             await browser.size(width, height);
-            assert.deepEqual(await clipped(browser), [], `${behind} at ${width} by ${height}`);
-            if (behind.includes("checksum")) await browser.reveal(".tape-strip");
-            if (behind.includes("checksum")) {
+            assert.deepEqual(await clipped(browser), [], `${query} at ${width} by ${height}`);
+            if (query.includes("checksum")) await browser.reveal(".tape-strip");
+            if (query.includes("checksum")) {
                 assert.ok(
                     await browser.value("document.querySelector('.tape-strip').getBoundingClientRect().height >= 80"), `tape at ${width}`
                 );
             }
-            assert.equal(await browser.value("document.documentElement.scrollWidth <= innerWidth"), true, `${behind} at ${width}`);
+            assert.equal(await browser.value("document.documentElement.scrollWidth <= innerWidth"), true, `${query} at ${width}`);
         }
     }
     await browser.size(1500, 1250);
@@ -147,18 +147,18 @@ async function ownQuestions(browser, address) {
     await browser.press("dialog > button");
 }
 
-/** Nothing has a name that is no text, in no language and behind no door. */
+/** Nothing has a name that is no text, in no language and in no section. */
 async function names(browser, address) {
-    for (const code of ["en", "de"]) for (const behind of [
+    for (const code of ["en", "de"]) for (const query of [
         "door=hall", "story=1", "lesson=rewriting", "task=sum", "door=work", "kiosk=message", "kiosk=games/matches",
     ]) {
-        await browser.open(`${address}?lang=${code}&${behind}`);
+        await browser.open(`${address}?lang=${code}&${query}`);
         assert.deepEqual(
             await browser.value(
                 "[...document.querySelectorAll('*')].filter((it) => /\\[object |undefined|NaN/.test([it.getAttribute('aria-label'), it.title, it.children.length === 0 && !it.matches('script, style') ? it.textContent : ''].join(' '))).map((it) => it.outerHTML.slice(0, 100))"
             ),
             [],
-            behind
+            query
         );
     }
     await browser.open(`${address}?lang=en&door=work`);
@@ -274,21 +274,21 @@ async function noticesWhole(browser, address) {
     // what is done here is offered when the page is opened again
     await browser.open(`${address}?lang=en&door=work`);
     await browser.write("; mine");
-    for (const code of ["en", "de"]) for (const behind of ["door=work#square-root", "lesson=rewriting", "story=2"]) {
-        await browser.open(`${address}?lang=${code}&${behind}`);
+    for (const code of ["en", "de"]) for (const query of ["door=work#square-root", "lesson=rewriting", "story=2"]) {
+        await browser.open(`${address}?lang=${code}&${query}`);
         await settled(browser);
         for (const [width, height] of [...SIZES, [1366, 768]]) {
             await browser.size(width, height);
             for (const [name, notice] of Object.entries(NOTICES)) {
                 await browser.value(`laboratoryOfPage().tell(${JSON.stringify(notice)})`);
                 await browser.reveal("#notice");
-                assert.deepEqual(await notWhole(browser), [0, [], true], `${code}, ${name} behind ${behind} at ${width} by ${height}`);
+                assert.deepEqual(await notWhole(browser), [0, [], true], `${code}, ${name} in ${query} at ${width} by ${height}`);
             }
             await browser.value("laboratoryOfPage().tell(null)");
             if (await browser.value("!document.querySelector('#kept').checkVisibility()")) continue;
             offers += 1;
             assert.deepEqual(
-                await notWhole(browser, "kept"), [0, [], true], `${code}, the offer behind ${behind} at ${width} by ${height}`
+                await notWhole(browser, "kept"), [0, [], true], `${code}, the offer in ${query} at ${width} by ${height}`
             );
             assert.equal(await browser.value("document.querySelector('.pace')?.querySelector('.when').checkVisibility() !== false"), true);
         }

@@ -74,19 +74,19 @@ const cutNow = (browser) => browser.value(`(async () => {
     return found;
 })()`);
 
-/** Behind each door no row is cut, wherever the machine is, and no bar of the browser's is there; the thumb of a list leads to its end. */
+/** In each section no row is cut, wherever the machine is, and no bar of the browser's is there; the thumb of a list leads to its end. */
 async function wholeRows(browser, address) {
     if (browser.ask === undefined) return "but not looked at: in this browser a row at the head of a list may still be cut";
     for (const [width, height] of [
         [1366, 768], [1440, 900], [1024, 768],
-    ]) for (const behind of ["?story=2&caption=4", "?door=work#self-modifying", "?lesson=rewriting&step=12"]) {
+    ]) for (const query of ["?story=2&caption=4", "?door=work#self-modifying", "?lesson=rewriting&step=12"]) {
         await browser.size(width, height);
-        await browser.open(`${address}${behind.replace("?", "?lang=en&")}`);
+        await browser.open(`${address}${query.replace("?", "?lang=en&")}`);
         await settled(browser);
         for (let round = 0; round < 3; round += 1) {
             await browser.value("laboratoryOfPage().step(4)");
             await settled(browser);
-            assert.deepEqual(await cutRows(browser), [], `${behind} at ${width} by ${height}`);
+            assert.deepEqual(await cutRows(browser), [], `${query} at ${width} by ${height}`);
         }
     }
     await browser.size(1366, 768);
@@ -138,20 +138,20 @@ const cutLines = (browser) => browser.value(`(async () => {
     return found;
 })()`);
 
-/** What stands behind the doors: each has a text, a list or a sheet that may be longer than its place. */
+/** What stands in the sections: each has a text, a list or a sheet that may be longer than its place. */
 const PLACES = [
     "door=hall", "story=1&caption=2", "story=3&caption=2", "story=4&caption=4", "door=learn", "lesson=a-computer-on-a-drum&step=3",
     "lesson=rewriting&step=12", "lesson=what-can-a-forecast-know&step=4", "task=sum", "task=peaks", "door=work#weather/lorenz",
 ];
 
-/** Behind each door, at each size, nothing that is scrolled ends with a part of a line, and no bar of the browser's is there. */
+/** In each section, at each size, nothing that is scrolled ends with a part of a line, and no bar of the browser's is there. */
 async function wholeLines(browser, address) {
     for (const [width, height] of [[1024, 768], [1366, 768], [1440, 900], [390, 844]]) {
         await browser.size(width, height);
-        for (const code of ["en", "de"]) for (const behind of PLACES) {
-            await browser.open(`${address}?lang=${code}&n=${width}&${behind}`);
+        for (const code of ["en", "de"]) for (const query of PLACES) {
+            await browser.open(`${address}?lang=${code}&n=${width}&${query}`);
             await settled(browser);
-            const where = `${behind} in ${code} at ${width} by ${height}`;
+            const where = `${query} in ${code} at ${width} by ${height}`;
             let found = await cutLines(browser);
             for (let round = 0; round < 5 && found.length > 0; round += 1) found = await cutLines(browser);
             assert.deepEqual(found, [], where);
@@ -171,7 +171,7 @@ const MENU = {
 };
 
 /**
- * Behind each door, at each size, one button leads to what stood in a row of boxes: nothing of it is seen before, all of it lies in the
+ * In each section, at each size, one button leads to what stood in a row of boxes: nothing of it is seen before, all of it lies in the
  * window, and keys alone open it, go through it, and shut it. A press beside it shuts it too.
  */
 async function menu(browser, address) {

@@ -160,9 +160,9 @@ async function atKiosk(browser, address, code) {
 
 async function scenes(browser, address) {
     for (const code of ["en", "de"]) {
-        for (const [name, [size, behind, bring, holds, more]] of Object.entries(DOORS)) {
+        for (const [name, [size, query, bring, holds, more]] of Object.entries(DOORS)) {
             await browser.size(...size);
-            await browser.open(`${address}?lang=${code}${behind}`);
+            await browser.open(`${address}?lang=${code}${query}`);
             // what another visit has left is offered above
             await browser.value("document.querySelectorAll('#kept').forEach((it) => { it.hidden = true; })");
             await bring(browser);

@@ -141,7 +141,7 @@ const WAYS = {
 const pressed = ({ engine }, place) => engine !== "WebKit" || place % 3 === 1;
 
 /**
- * Presses each control that is seen behind a door, one after another, after something was written in Work; and goes each of the ways after
+ * Presses each control that is seen in a section, one after another, after something was written in Work; and goes each of the ways after
  * each third.
  */
 async function pressEach(browser, door) {
@@ -155,11 +155,11 @@ async function pressEach(browser, door) {
         await browser.value(`${CONTROLS}.find(([name]) => name === ${JSON.stringify(name)})?.[1].click()`);
         if (name === "kiosk") await browser.waitFor("document.querySelector('.kiosk-bar') !== null");
         await settled(browser);
-        await isFound(browser, `after ${name} behind ${door}`);
+        await isFound(browser, `after ${name} in ${door}`);
         const [way, go] = Object.entries(WAYS)[round % 3];
         await go(browser);
         await browser.waitFor(isReady);
-        await isFound(browser, `after ${name} behind ${door} and ${way}`);
+        await isFound(browser, `after ${name} in ${door} and ${way}`);
     }
     return controls.length;
 }
@@ -222,17 +222,17 @@ async function afterNew(browser, address) {
 
 /** An example that the hall, a story or a lesson shows is not named as the one that is open, so it can be chosen there. */
 async function exampleFromAnywhere(browser, address) {
-    for (const behind of ["door=hall", "story=2", "lesson=rewriting&step=13"]) {
-        await browser.open(`${address}?lang=en&${behind}`);
+    for (const query of ["door=hall", "story=2", "lesson=rewriting&step=13"]) {
+        await browser.open(`${address}?lang=en&${query}`);
         await settled(browser);
-        assert.equal(await browser.value("document.getElementById('example').value"), "", behind);
+        assert.equal(await browser.value("document.getElementById('example').value"), "", query);
         await choose(browser, "example", "self-modifying");
         await browser.waitFor("document.body.dataset.door === 'work' && location.hash === '#self-modifying'");
         await settled(browser);
         assert.deepEqual(
             [await browser.value("document.getElementById('example').value"), (await panelOf(browser)).status],
             ["self-modifying", "going"],
-            behind
+            query
         );
     }
 }
@@ -367,10 +367,10 @@ async function places(browser, address) {
     assert.deepEqual(await caption(), ["rewrite", "2 of 5", "?lang=en&story=2&caption=2"]);
     await browser.value("history.back()");
     await browser.waitFor("document.querySelector('.caption-at').textContent === '1 of 5'");
-    for (const [behind, told] of [
+    for (const [query, told] of [
         ["?lang=en&story=9", /unknown story: 9/], ["?lang=en&task=nonesuch", /unknown task: nonesuch\. The tasks are .*sum/],
     ]) {
-        await browser.open(address + behind);
+        await browser.open(address + query);
         assert.match(await textOf(browser, "#notice"), told);
     }
 }

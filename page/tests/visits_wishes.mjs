@@ -28,14 +28,14 @@ const unreached = (browser) => browser.value(`(async () => {
  * scrolled to and is hit.
  */
 async function zoomed(browser, address) {
-    for (const [place, [width, height]] of [[683, 384], [960, 540]].entries()) for (const behind of PLACES) {
+    for (const [place, [width, height]] of [[683, 384], [960, 540]].entries()) for (const query of PLACES) {
         await browser.size(width, height);
-        await browser.open(`${address}${behind}&lang=${place === 0 ? "de" : "en"}`);
+        await browser.open(`${address}${query}&lang=${place === 0 ? "de" : "en"}`);
         await settled(browser);
         assert.deepEqual(
             [await browser.value("document.documentElement.scrollWidth <= innerWidth"), ...await unreached(browser)],
             [true],
-            `${behind} at ${width} by ${height}`
+            `${query} at ${width} by ${height}`
         );
     }
     await browser.open(`${address}?lang=en&door=work`);
@@ -48,8 +48,8 @@ async function zoomed(browser, address) {
  */
 async function inFewColours(browser, address) {
     if (browser.media === undefined) return "but not looked at, since this browser cannot be told of colours";
-    for (const behind of ["?story=2&caption=4", "?lesson=rewriting&step=12", "?door=work", "?kiosk=message"]) {
-        await browser.open(`${address}${behind}&lang=en`);
+    for (const query of ["?story=2&caption=4", "?lesson=rewriting&step=12", "?door=work", "?kiosk=message"]) {
+        await browser.open(`${address}${query}&lang=en`);
         await settled(browser);
         await browser.media({ "forced-colors": "active" });
         const drawn = [".drum-box", ".scope", ".tape-strip", ".timeline", ".platen", ".piece", ".strip", ".lever i", ".map-ground"];
@@ -58,21 +58,21 @@ async function inFewColours(browser, address) {
                 `${JSON.stringify(drawn)}.filter((it) => document.querySelector(it) !== null && getComputedStyle(document.querySelector(it)).forcedColorAdjust !== "none")`
             ),
             [],
-            behind
+            query
         );
         assert.equal(
             await browser.value(
                 "(() => { const it = document.querySelector('.paces :checked')?.closest('label'); return it == null || getComputedStyle(it).backgroundColor !== getComputedStyle(it.nextElementSibling ?? it.previousElementSibling).backgroundColor; })()"
             ),
             true,
-            behind
+            query
         );
         assert.equal(
             await browser.value(
                 "[['tr.now', 'solid'], ['tr.next', 'dashed']].every(([name, style]) => { const it = document.querySelector(name); return it === null || getComputedStyle(it).outlineStyle === style; })"
             ),
             true,
-            behind
+            query
         );
         const chosen = ".tablist [aria-selected='true'], .doors [aria-current], button.primary, #caption-next";
         assert.deepEqual(
@@ -80,10 +80,10 @@ async function inFewColours(browser, address) {
                 `(() => { const probe = document.createElement("i"); probe.style.cssText = "forced-color-adjust: none; color: HighlightText; background: Highlight"; document.body.append(probe); const wanted = [getComputedStyle(probe).color, getComputedStyle(probe).backgroundColor]; probe.remove(); return [...document.querySelectorAll(${JSON.stringify(chosen)})].filter((it) => it.checkVisibility()).filter((it) => [getComputedStyle(it).color, getComputedStyle(it).backgroundColor].some((colour, place) => colour !== wanted[place])).map((it) => it.textContent); })()`
             ),
             [],
-            `${behind}: what is chosen cannot be read`
+            `${query}: what is chosen cannot be read`
         );
         await browser.media({ "prefers-color-scheme": "dark" });
-        assert.deepEqual(await faint(browser), [], behind);
+        assert.deepEqual(await faint(browser), [], query);
     }
     await browser.open(`${address}?lang=en&door=work`);
     await browser.media({});

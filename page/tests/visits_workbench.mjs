@@ -45,10 +45,41 @@ async function oneWindow(browser, address) {
                 );
             }
             const seen = await browser.value(
-                "['.source', '.drum-box', '.console', '.accounts', '.listing', '.paper', '.timeline', '#run-program'].filter((it) => document.querySelector(it)?.checkVisibility())"
+                "['.source', '.drum-box', '.console', '.accounts', '.drum-map', '.paper', '.timeline', '#run-program'].filter((it) => document.querySelector(it)?.checkVisibility())"
             );
             if (width >= 1280) assert.equal(seen.length, 8, `${code} at ${width}: ${seen}`);
         }
+    }
+    await browser.size(1500, 1250);
+}
+
+/**
+ * The three columns have their shares, the third has room for the typewriter, and the map is the first tab there. No comment of a source in
+ * English is cut off, nor what an order did, in either language.
+ */
+async function columns(browser, address) {
+    for (const [width, height] of [[1280, 720], [1366, 768], [1440, 900]]) for (const code of ["en", "de"]) {
+        await browser.size(width, height);
+        await browser.open(`${address}?lang=${code}&door=work#self-modifying`);
+        await press(browser, "#run-program");
+        await settled(browser);
+        await laidOut(browser);
+        const where = `${code} at ${width}`;
+        const widths = await browser.value("[...document.querySelectorAll('.pane')].map((it) => it.getBoundingClientRect().width)");
+        const shares = widths.map((it) => it / widths[0]);
+        assert.ok(Math.abs(shares[1] - 33.6 / 40) < 0.01 && widths[2] >= 346, `${where}: ${widths}`);
+        if (width >= 1366) assert.ok(Math.abs(shares[2] - 26.4 / 40) < 0.01, `${where}: ${widths}`);
+        assert.deepEqual(
+            await browser.value("[document.querySelector('.memory-tabs [role=tab]').id, document.querySelector('.drum-map').checkVisibility()]"),
+            ["tab-memory-map", true]
+        );
+        assert.equal(await browser.value("(({ scrollWidth, clientWidth }) => scrollWidth - clientWidth)(document.querySelector('.accounts .scroll'))"), 0, where);
+        if (code === "de" || width < 1366) continue;
+        assert.deepEqual(
+            await browser.value("[...document.querySelectorAll('.source .cm-comment')].filter((it) => it.getBoundingClientRect().right > it.closest('.CodeMirror').getBoundingClientRect().right).map((it) => it.textContent)"),
+            [],
+            where
+        );
     }
     await browser.size(1500, 1250);
 }
@@ -469,7 +500,7 @@ async function sourceToldFirst(browser, address) {
 }
 
 const VISITS = {
-    oneWindow, seenWhole, runToldWhole, smallTelephone, nothingMoves, lastOrders, drumMap, paceRow, tapeMoves, sourceToldFirst,
+    oneWindow, columns, seenWhole, runToldWhole, smallTelephone, nothingMoves, lastOrders, drumMap, paceRow, tapeMoves, sourceToldFirst,
 };
 
 /** The visits of the workbench of the page at an address, by their names. */

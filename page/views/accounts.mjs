@@ -1,4 +1,4 @@
-// The accounts of the last orders as a table, and a slider over the orders behind and ahead.
+// The accounts of the last orders as a table, and a slider over the orders before and after this moment.
 import { SECTORS } from "../addresses.mjs";
 import { accumulatorKinds, valueAt, valueOf } from "../kinds.mjs";
 import { groupOf } from "../../libraries/javascript/replies.mjs";

@@ -7,7 +7,7 @@ import { bitsOf } from "../../libraries/javascript/replies.mjs";
 import { PHASES } from "../player.mjs";
 import { decimal } from "../words.mjs";
 import { h, part, s, tell } from "./dom.mjs";
-import { apart, inRadians, turned } from "./pins.mjs";
+import { apart, inRadians, turned, within } from "./pins.mjs";
 
 /** The centre of the picture of 800 to 720, and what one word time turns. */
 export const [X, Y] = [400, 372];
@@ -148,7 +148,8 @@ function makeRing() {
     };
 }
 
-/** The sizes of pins, and how far from the centre they lie at an angle. */
+/** The size of the drawing; the sizes of pins, and how far from the centre they lie at an angle. */
+const DRAWING = [800, 720];
 const FLAGS = { now: { width: 96, height: 30 }, next: { width: 66, height: 25 }, operand: { width: 64, height: 28 } };
 const flagDistance = (angle, { width, height }) => (
     314 + height / 2 + (height / 2) * Math.abs(Math.cos(inRadians(angle))) + (width / 2) * Math.abs(Math.sin(inRadians(angle)))
@@ -160,13 +161,15 @@ function makePin(kind) {
     const place = s("g", {}, s("g", { class: "flag" }, rect, label));
     const node = s("g", { class: `pin ${kind} away`, "data-kind": kind }, stem, place);
     const hide = () => node.classList.add("away");
-    const show = ({ address, name, own, angle, flag: { width, height } }) => {
+    const show = ({ address, name, own, angle, flag: { width, height }, size }) => {
         node.classList.remove("away");
         node.dataset.address = address;
         label.textContent = name;
         for (const [key, value] of Object.entries({ x: -width / 2, y: -height / 2, width, height })) rect.setAttribute(key, value);
         stem.setAttribute("d", Math.abs(turned(own - angle)) < 2 ? "" : `M ${fixed(at(own, RING.outer))} L ${fixed(at(angle, WAY + 10))}`);
-        place.setAttribute("transform", `translate(${fixed(at(angle, flagDistance(angle, { width, height })))})`);
+        const whole = { width: width * size, height: height * size };
+        const middle = within(at(angle, flagDistance(angle, { width, height })), whole, DRAWING);
+        place.setAttribute("transform", `translate(${fixed(middle)})`);
     };
     return { node, hide, show };
 }
@@ -217,6 +220,7 @@ function makeFixed({ text, code }) {
                 own,
                 angle: angles.get(kind),
                 flag: flagOf(kind),
+                size,
             });
         }
         pins.operand.node.classList.toggle("written", view.isWritten === true);
@@ -238,7 +242,7 @@ function makeFixed({ text, code }) {
     return { node: svg, show, resize: (factor) => { size = factor; } };
 }
 
-/** A path along the way of the head, clockwise from it over so many word times. */
+/** A path along the way of the head, clockwise from it over this many word times. */
 function sweep(times) {
     const angles = Array.from({ length: Math.ceil(times / 16) }, (unused, place) => Math.min(times, 16 * (place + 1)) * STEP);
     return `M ${fixed(at(0, WAY))} ${angles.map((angle) => arc(angle, WAY)).join(" ")}`;

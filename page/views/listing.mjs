@@ -52,7 +52,7 @@ function row({ address, digits, order, writer, isNew, labels, comment }, { text,
 }
 
 /** Marks the rows of the order under way, in the colour of its phase, and of what comes after it. */
-function markRows(body, { now, phase, coming }, { chips }) {
+export function markRows(body, { now, phase, coming }, { chips }) {
     for (const row of body.children) {
         const { address } = row.dataset;
         const [isNow, isNext] = [address === now, address === coming];

@@ -38,7 +38,8 @@ export function usedBy(accounts) {
 /** Where the rows of tracks begin, and how high they are: those with words are higher. */
 export function rowsOf(hasWords, height) {
     const count = hasWords.filter(Boolean).length;
-    const high = count === 0 ? LOW : Math.min(HIGH, (height - (SECTORS - count) * LOW) / count);
+    const empty = Math.min(LOW, height / SECTORS / 2);
+    const high = count === 0 ? LOW : Math.min(HIGH, (height - (SECTORS - count) * empty) / count);
     const low = Math.min(high, (height - count * high) / Math.max(1, SECTORS - count));
     let top = 0;
     return hasWords.map((has) => {
@@ -189,7 +190,9 @@ function makeGrid({ text }, shown, choose) {
     const node = h(
         "div", { class: "map", role: "grid", tabindex: "0", "aria-label": text("mapName") }, ground, h("div", { role: "row" }, told)
     );
-    canvas.addEventListener("click", ({ offsetX, offsetY }) => choose(drawing.addressAt(offsetX, offsetY, shown.passes)));
+    node.addEventListener("click", ({ target, offsetX, offsetY }) => {
+        if (target === canvas) choose(drawing.addressAt(offsetX, offsetY, shown.passes));
+    });
     node.addEventListener("keydown", (event) => {
         const address = event.target === node ? arrived(event.key, shown.chosen ?? shown.next, shown.passes) : null;
         if (address === null) return;

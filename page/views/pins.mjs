@@ -8,6 +8,11 @@ export const inRadians = (degrees) => (degrees * Math.PI) / 180;
 /** An angle from -180 to 180 degrees. */
 export const turned = (degrees) => (((degrees % 360) + 540) % 360) - 180;
 
+/** A place in a drawing of this size, or the next one to it where a pin of a width and height is whole in the drawing. */
+export const within = ([x, y], { width, height }, [right, bottom]) => [
+    Math.min(right - width / 2, Math.max(width / 2, x)), Math.min(bottom - height / 2, Math.max(height / 2, y)),
+];
+
 /** How many degrees two pins have to be apart that lie at about an angle. */
 function roomFor(angle, one, other, distanceOf) {
     const [width, height] = [(one.width + other.width) / 2 + 6, (one.height + other.height) / 2 + 6];

@@ -1,12 +1,14 @@
 // The kiosk with an exhibit that runs a program: what is told, the drum, the typewriter, at which pace all goes and what the machine would
 // have taken, and what the scene has beside the paper: what was torn off, the bits of
 // a word, or the orders at a place.
+import { SECTORS, addressOf } from "../addresses.mjs";
 import { PACES, WORD_TIME } from "../drive.mjs";
 import { FIELDS, LETTERS } from "../machine.mjs";
 import { bitsOf, linesOf } from "../../libraries/javascript/replies.mjs";
 import { differing, rowsOf, sideBySide } from "../pieces.mjs";
 import { h, refill, tell } from "./dom.mjs";
 import { makeButtons } from "./kiosk.mjs";
+import { markRows } from "./listing.mjs";
 import { inSigns } from "../words.mjs";
 
 /** How many rows of a torn piece are laid out before the last one that both have, and after it. */
@@ -190,11 +192,18 @@ function saidOf(name, bits, isWhole, { text }) {
     return isWhole ? [LETTERS[value], text("bitsNumber", { number: value })] : ["…", String(value)];
 }
 
+/** The place to which the 1 of an address is added, and what is below a place while the carry is at another one, or has not begun. */
+const LAST = FIELDS.sector[1] - 1;
+const markBelow = (place, at) => (place === (at < 0 ? LAST : at) ? "1" : at >= 0 && place > at && place <= LAST ? "‹" : "");
+
 /** A word bit by bit, and while one is added to it, how far the sum has come. */
 function makeBits(laboratory, exhibit, texts) {
     const node = h("div", { class: "word-bits", role: "img" });
     const fieldNode = ([name, from, to], bits, at, isWhole) => {
         const [value, below] = saidOf(name, bits.slice(from, to), isWhole, texts);
+        const marks = bits.slice(from, to).map((bit, place) => markBelow(from + place, at)).map(
+            (mark) => h("i", { class: mark === "1" ? "ring" : null }, mark)
+        );
         const cells = bits.slice(from, to).map((bit, place) => (
             h("i", { class: `bit ${bit === 1 ? "one" : ""} ${from + place === at ? "now" : ""}` }, String(bit))
         ));
@@ -204,7 +213,8 @@ function makeBits(laboratory, exhibit, texts) {
             h("span", {}, texts.text(`bits_${name}`)),
             h("span", { class: "bit-cells" }, ...cells),
             h("b", {}, value),
-            h("small", {}, below)
+            h("small", {}, below),
+            h("span", { class: "carry" }, ...marks)
         );
     };
     let shown = "";
@@ -224,9 +234,50 @@ function makeBits(laboratory, exhibit, texts) {
         if (key === shown) return;
         shown = key;
         node.setAttribute("aria-label", texts.text("bitsOfWord", { bits: now.join("") }));
-        node.replaceChildren(...SHOWN.map((field) => fieldNode(field, now, at, isWhole)));
+        node.replaceChildren(
+            ...SHOWN.map((field) => fieldNode(field, now, at, isWhole)),
+            h("small", { class: "carry-told" }, texts.text(at < 0 ? "carryBegins" : "carryGoes"))
+        );
     };
     return { node, show };
+}
+
+/** The order in a word: its letter, and the label or address of its place. */
+function orderIn(digits, labels) {
+    const numberIn = (name) => Number.parseInt(bitsOf(digits).slice(...FIELDS[name]).join(""), 2);
+    const [letter, track, sector] = ["order", "track", "sector"].map(numberIn);
+    const address = addressOf(track * SECTORS + sector);
+    return [LETTERS[letter], labels.get(address)?.[0] ?? address];
+}
+
+/** The orders from a place on in place of the typewriter, with the marks of the order under way. */
+function makeOrders(laboratory, exhibit, { table, text }, markNow) {
+    const body = h("tbody");
+    const node = h("table", { class: "words-table orders-beside", "aria-label": text("tab_program") }, body);
+    let shown = "";
+    const row = (line) => {
+        const [at, digits] = line.split(" ");
+        const [letter, place] = orderIn(digits, laboratory.labels);
+        return h(
+            "tr",
+            { "data-address": at },
+            ...[h("code", {}, at), h("code", {}, `${letter} ${place}`), table.orders[letter].split(":")[0]].map((it) => h("td", {}, it)),
+            h("td", { class: "chip" }, h("span"))
+        );
+    };
+    const frame = () => markRows(body, markNow(), table);
+    const show = () => {
+        if (exhibit.beside?.orders === undefined) return;
+        const { bits } = exhibit;
+        const isComing = bits !== null && bits.seen < bits.pictures.length;
+        const lines = linesOf(laboratory.answers[1] ?? "").filter((line) => /^\d{4} /.test(line)).map(
+            (line) => (isComing ? line.replace(bits.after, bits.before) : line)
+        );
+        if (lines.join() !== shown) body.replaceChildren(...lines.map(row));
+        shown = lines.join();
+        frame();
+    };
+    return { node, show, frame };
 }
 
 /** The orders from a place on, up to the last one that its exhibit names. */
@@ -244,10 +295,10 @@ function makeWords(laboratory, exhibit, { text }) {
 }
 
 /**
- * The kiosk with such an exhibit: header, main and footer. `made` has the views of the page that it shows, and `others` the small buttons
- * at the top.
+ * The kiosk with such an exhibit: header, main and footer. `made` has the views of the page that it shows, `others` the small buttons at
+ * the top, and `markNow` tells which order is under way.
  */
-export function makeRunning(laboratory, texts, exhibit, made, others) {
+export function makeRunning(laboratory, texts, exhibit, made, others, markNow) {
     const { text, code } = texts;
     const own = {
         told: makeTold(exhibit, texts),
@@ -256,6 +307,7 @@ export function makeRunning(laboratory, texts, exhibit, made, others) {
         torn: makeTorn(exhibit, texts),
         bits: makeBits(laboratory, exhibit, texts),
         words: makeWords(laboratory, exhibit, texts),
+        orders: makeOrders(laboratory, exhibit, texts, markNow),
     };
     // it comes after the paper, whose row it colours
     const wash = makeWash(exhibit, made.paper.node.querySelector(".paper"));
@@ -267,6 +319,7 @@ export function makeRunning(laboratory, texts, exhibit, made, others) {
             state: exhibit.state,
             exhibit: "running",
             beside: Object.keys(exhibit.beside ?? { none: true })[0],
+            orders: String(exhibit.beside?.orders !== undefined),
             scene: exhibit.scene,
             busy: String(exhibit.isBusy),
         });
@@ -277,7 +330,15 @@ export function makeRunning(laboratory, texts, exhibit, made, others) {
     return {
         nodes: [
             header,
-            h("main", {}, cabinet, own.pace.node, beside, h("div", { class: "flexowriter" }, made.paper.node, made.deck.node)),
+            h(
+                "main",
+                {},
+                cabinet,
+                own.pace.node,
+                beside,
+                own.orders.node,
+                h("div", { class: "flexowriter" }, made.paper.node, made.deck.node)
+            ),
             h("footer", {}, own.buttons.node),
         ],
         views: [shown, ...Object.values(own), ...Object.values(made), wash],

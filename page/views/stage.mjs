@@ -58,9 +58,13 @@ const ELSEWHERE = {
     ],
 };
 
-/** What the tabs of Work have, by their names. In a wide window the map stands below the program, and tape and keys below one another. */
+/**
+ * What the tabs of Work have, by their names. In the widest window the map stands below the program, and tape and keys below one another;
+ * where there are three columns the map comes first, else the program.
+ */
 function entriesOf(made, boxes, { text }) {
     const entry = (name, ...nodes) => ({ name, title: text(`tab_${name}`), nodes });
+    const [map, program] = [entry("map", made.map.node), entry("program", made.listing.node)];
     return {
         told: [
             entry("orders", made.story.node, made.accounts.node),
@@ -70,7 +74,7 @@ function entriesOf(made, boxes, { text }) {
             entry("registers", made.panel.node),
         ],
         memory: [
-            entry("program", made.listing.node), ...(WIDEST.matches ? [] : [entry("map", made.map.node)]), entry("costs", made.costs.node),
+            ...(WIDEST.matches ? [program] : WIDE.matches ? [map, program] : [program, map]), entry("costs", made.costs.node),
         ],
         flexo: [entry("keyboard", made.keyboard.node), entry("tape", made.tape.node)],
         paper: [entry("paper", boxes.typewriter)],

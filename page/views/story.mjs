@@ -24,7 +24,7 @@ function sentence(pattern, values) {
     });
 }
 
-/** The bar of an account, and what fills it up to so many word times. */
+/** The bar of an account, and what fills it up to this many word times. */
 export function makeBar(account) {
     let begins = 0;
     const fills = PHASES.flatMap((phase) => partsOf(phase, account[phase]).filter(([, times]) => times > 0).map(([kind, times]) => {

@@ -9,11 +9,14 @@ export function makeTabs(name, label) {
     const [list, panels] = [h("div", { class: "tablist", role: "tablist", "aria-label": label }), h("div", { class: "tab-panels" })];
     const node = h("div", { class: `tabbed ${name}-tabs` }, list, panels);
     const all = new Map();
-    const choose = (wanted) => {
-        chosen.set(name, wanted);
+    const show = (wanted) => {
         for (const tab of list.children) tab.setAttribute("aria-selected", String(tab.dataset.tab === wanted));
         for (const panel of panels.children) panel.hidden = panel.dataset.panel !== wanted;
         node.dispatchEvent(new Event("chosen", { bubbles: true }));
+    };
+    const choose = (wanted) => {
+        chosen.set(name, wanted);
+        show(wanted);
     };
     const make = (entry, title) => {
         const tab = h(
@@ -33,7 +36,8 @@ export function makeTabs(name, label) {
         fill(list, entries.map((entry) => all.get(entry.name).tab));
         fill(panels, entries.map((entry) => all.get(entry.name).panel));
         for (const { name: entry, nodes } of entries) fill(all.get(entry).panel, nodes);
-        choose(entries.some((entry) => entry.name === chosen.get(name)) ? chosen.get(name) : entries[0]?.name);
+        // the first tab is seen as long as none was chosen
+        show(entries.some((entry) => entry.name === chosen.get(name)) ? chosen.get(name) : entries[0]?.name);
     };
     list.addEventListener("keydown", ({ key, target }) => {
         const tabs = [...list.children];

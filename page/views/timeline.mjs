@@ -48,7 +48,7 @@ export function placed(bars, width, isCounted = true) {
 /** How wide the slider's thumb is, and how pale what was gone back over. */
 const [THUMB, LATER] = [10, 0.5];
 
-/** Where a place of so many orders is on a line of this width: in the middle of the slider's thumb. */
+/** Where a place among these orders is on a line of this width: in the middle of the slider's thumb. */
 export const xOf = (place, orders, width) => THUMB / 2 + (orders === 0 ? 1 : place / orders) * (width - THUMB);
 
 /** How many of the orders that can be counted were not told: those before the told ones. */
