@@ -77,14 +77,21 @@ function valueText(value) {
     return Array.isArray(value) ? value.join(" ") : escapedOf(String(value));
 }
 
-/** The lines of a record: as one object where objects are asked for, or of each key that has a value with it. */
-const recordLines = (record, isObject) => (
-    isObject
-        ? [JSON.stringify(record)]
-        : Object.entries(record).filter(([, value]) => value !== null).map(([key, value]) => `${key} ${valueText(value)}`));
+/** The lines of a record: as one object after `json`, as one line after `to`, or of each key that has a value with it. */
+function recordLines(record, command) {
+    if (command === "json") return [JSON.stringify(record)];
+    const lines = Object.entries(record).filter(([, value]) => value !== null).map(([key, value]) => `${key} ${valueText(value)}`);
+    return command === "to" ? [lines.join(" ")] : lines;
+}
+
+/** The command of a line, which is the one after `at NUMBER` where it is asked of a moment. */
+function commandOf(line) {
+    const words = wordsOf(line);
+    return words[0] === "at" ? words[2] : words[0];
+}
 
 /** The lines of a reply of the native program to a line. */
-const replyLines = (reply, line) => reply.flatMap((it) => (typeof it === "string" ? [it] : recordLines(it, wordsOf(line)[0] === "json")));
+const replyLines = (reply, line) => reply.flatMap((it) => (typeof it === "string" ? [it] : recordLines(it, commandOf(line))));
 
 /**
  * Starts a process beside a program that kills it when this one has gone without ending it: a program within a long line does not notice
