@@ -28,7 +28,8 @@ export const WATCH = `(() => {
         const told = laboratory.accounts.some((account) => account.at === (pin?.dataset.address ?? null) && account.order.startsWith(order));
         const caption = document.querySelector(".kiosk-told")?.dataset.of ?? "";
         const register = [...document.querySelectorAll(".trace-value")][1]?.querySelector("small")?.textContent.split(" ").slice(0, 2).join(" ") ?? order;
-        const isTaken = phase === "seek" || phase === "act" || phase === "done";
+        // once it is done, the console may fill the register with a word that no order was
+        const isTaken = phase === "seek" || phase === "act" || (phase === "done" && register !== "");
         const places = [row?.dataset.address ?? pin?.dataset.address, pin?.dataset.address, caption === "" ? pin?.dataset.address : caption];
         const isOne = new Set(places).size === 1 && (places[0] === undefined ? sector === null : Number(sector) === Number(places[0].slice(2))) && (row === null || row.dataset.phase === phase) && (!isTaken || register === order);
         seen.pictures += 1;

@@ -290,7 +290,8 @@ inFolder("what was printed is kept as text, without a trace of what was asked", 
         "put 0000 p =h\nput 0001 p 0400\nput 0002 z\npress start\npunch blank\nrun 9\npunch tape\n  punch   tape two \ntape tape\nsource\npunch none\n.\ntranscript\n";
     assert.equal(monitor([], lines, here).text, [
         "ok", "ok", "ok", "live", "saved blank", "ran 3 rest", "saved tape", "saved tape two", "ok 2", "? 9 Faults", "line 1 UnknownOrder",
-        "        punch none", "              ^^^^", "line 2 NoEnd",
+        "        punch none", "              ^^^^", "        there is no such operation: write one of the sixteen letters, -t, word, frac, int, org or end",
+        "line 2 NoEnd", "        the end line is missing: end with a line that has end and the label of the first order",
         "put 0000 00083100", "put 0001 00080400", "put 0002 00000000", "press start", "run 9", "mount h[04]", "source", "punch none", ".",
         "",
     ].join("\n"));
@@ -329,6 +330,7 @@ inFolder("files that are refused", { point: " z\n.\n", self: "do self\n" }, (her
 inFolder("a source that a file leaves open takes the lines that are typed", { open: "source\n z\n" }, (here) => {
     assert.equal(monitor(["open"], "do open\n end\n.\nfoo\n", here).text, [
         "? 9 Faults", "line 2 UnknownOrder", "        do open", "           ^^^^",
+        "        there is no such operation: write one of the sixteen letters, -t, word, frac, int, org or end",
         "? 1 Form: there is no such command; help lists them all", "",
     ].join("\n"));
 });
