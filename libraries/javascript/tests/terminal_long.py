@@ -60,10 +60,12 @@ def a_long_account_is_written_as_it_is_made():
 
 def a_way_back_is_stopped():
     terminal = going()
-    terminal.type("orders 60000000\r", "going> ")
+    # some seconds, by the module and by the program
+    orders = 60_000_000 if NATIVE is None else 600_000_000
+    terminal.type(f"orders {orders}\r", "going> ")
     clock, script = clock_of(terminal), terminal.type("transcript\r", "going> ")
-    # while the prompt looks for the order, and while it goes there
-    for line, wait in (("back 50000000", "seconds: 0 (Ctrl-C"), ("back 50000000", "seconds: 1 (Ctrl-C"), ("back to why 0000", "seconds: 0 (Ctrl-C")):
+    back = f"back {orders // 6 * 5}"
+    for line, wait in ((back, "seconds: 0 (Ctrl-C"), (back, "seconds: 1 (Ctrl-C"), ("back to why 0000", "seconds: 0 (Ctrl-C")):
         terminal.raw(f"{line}\r", wait)
         terminal.type(CTRL_C, TAKEN_BACK)
         assert clock_of(terminal) == clock
