@@ -68,7 +68,7 @@ export class Completion {
         if (before[0] === "to" && before.length === 1) return ["first ", "last "];
         if (before[0] === "paper") return before.length === 1 ? ["typed"] : [];
         if (BACK.includes(before[0]) && before.length < 3) return before.length === 1 ? ["to "] : ["why "];
-        if (["until", "to"].includes(before[0]) || before[2] === "until") return [...COUNTED, ...(await this.#places())];
+        if (["until", "when", "to"].includes(before[0]) || before[2] === "until") return [...COUNTED, ...(await this.#places())];
         switch (commands.get(before[0])?.takes) {
             case "file":
             case "source":

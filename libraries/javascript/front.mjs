@@ -66,6 +66,8 @@ export class Front {
     #earlier;
     #editing;
     #source = null;
+    /** The condition that each run waits for; null where there is none. */
+    #condition = null;
     /** The transcript at the order that was gone to last. */
     #came = null;
     #ahead = new Ahead();
@@ -260,7 +262,7 @@ export class Front {
         const [typed] = wordsOf(line);
         const own = OWN.get(SHORT.get(typed) ?? typed);
         const work = own === undefined || typed === "exit" ? null : this.#ownWork(SHORT.get(typed) ?? typed, own, line);
-        const meant = meantBy(line);
+        const meant = this.#waiting(meantBy(line));
         await (work ?? this.#monitorWork(meant, wordsOf(meant)) ?? (() => this.#answer(meant)))();
         if (this.#isPlain || this.#source !== null || this.#engine.isSourceOpen || this.#engine.hasLeft) return;
         for (const shown of await this.#views.afterMove()) this.#note(shown);
@@ -282,6 +284,7 @@ export class Front {
             change: () => this.#change(operands, rest),
             display: () => this.#display(operands[0]),
             undisplay: () => this.#undisplay(operands[0]),
+            when: () => this.#waitFor(rest),
             forward: () => this.#forward(operands[0]),
             past: () => this.#past(),
             "put-listing": () => this.#putListing(line),
@@ -762,6 +765,35 @@ export class Front {
 
     #undisplay(address = null) {
         if (!this.#views.hide(address)) this.#note(address === null ? "no word is displayed" : `${address} is not displayed`);
+    }
+
+    // ---- the condition that each run waits for
+
+    /** A line that runs, with the condition that each run waits for; any other as it is. */
+    #waiting(line) {
+        const [command, number, ...others] = wordsOf(line);
+        const isRun = command === "run" && isNumber(number) && others.length === 0;
+        return isRun && this.#condition !== null ? `${line} until ${this.#condition}` : line;
+    }
+
+    async #waitFor(condition) {
+        const refusal = ["", "none"].includes(condition) ? null : await this.#refusalOf(condition);
+        if (refusal !== null) return this.#say(refusal);
+        if (condition !== "") this.#condition = condition === "none" ? null : condition;
+        this.#note(this.#condition === null ? "no run waits for a condition" : `each run ends where this is met: ${this.#condition}`);
+    }
+
+    /** Why a text is no condition, by the labels of the last source; null where it is one. */
+    async #refusalOf(condition) {
+        const source = lastSource(await this.#engine.ask("transcript"));
+        const beside = this.#engine.openBeside();
+        try {
+            for (const line of source === null ? [] : ["source", ...source, "."]) await beside.type(line);
+            const reply = await beside.type(`run 0 until ${condition}`);
+            return isRefusal(reply) ? reply : null;
+        } finally {
+            await beside.close();
+        }
     }
 
     // ---- short names

@@ -25,7 +25,7 @@ const STATES = [
     { lines: PREPARED, says: "after the lines that help example shows:" },
 ];
 /** Examples that are not tried: they end the program, or say something of this computer's files. */
-const UNTRIED = ["quit", "exit", "finish", "edit", "sessions", "resume", "forward", "past", "alias", "unalias", "undisplay"];
+const UNTRIED = ["quit", "exit", "finish", "when", "edit", "sessions", "resume", "forward", "past", "alias", "unalias", "undisplay"];
 /** The group of the commands that are for programs. */
 const PROGRAMS = "programs";
 const didNothing = (reply) => linesOf(reply).some((line) => line.startsWith("ran 0 ") || line.startsWith("orders 0 "));

@@ -40,7 +40,7 @@ test("each form of a command is in a line of its own, as it is typed", async () 
 });
 
 /** The commands whose example opens something, ends the session, or says something of this computer's files. */
-const WITHOUT = ["source", "quit", "exit", "finish", "edit", "sessions", "resume", "forward", "past", "alias", "unalias", "undisplay"];
+const WITHOUT = ["source", "quit", "exit", "finish", "when", "edit", "sessions", "resume", "forward", "past", "alias", "unalias", "undisplay"];
 
 test("each command has an example that is not refused, with a reply but where it opens something or names a file", async () => {
     for (const name of names) {

@@ -191,6 +191,26 @@ def why_nothing_is_done():
     left(terminal)
 
 
+def each_run_waits_for_a_condition():
+    terminal = begun()
+    for line in ("source", "loop b count", " a one", " h count", " u loop", "count int 0 30", "one int 1 30", " end loop"):
+        terminal.type(f"{line}\r", "source> ")
+    terminal.type(".\r", BEGUN)
+    terminal.type("load\r", "going> ")
+    assert "no run waits for a condition\n" in terminal.type("when\r", "going> ")
+    assert "? 1 Form: nowhere is not a label in the last source\n" in terminal.type("when nowhere\r", "going> ")
+    assert "no run waits for a condition\n" in terminal.type("when none\r", "going> ")
+    assert "each run ends where this is met: count = 3\n" in terminal.type("when count = 3\r", "going> ")
+    assert "ran 11 limit\n        the condition is met\n" in terminal.type("run 20\r", "going> ")
+    assert "each run ends where this is met: 100000 times loop\n" in terminal.type("when 100000 times loop\r", "going> ")
+    assert "ran 399997 limit\n        the condition is met\n" in terminal.type("c\r", "going> ")
+    assert "each run ends where this is met: 100000 times loop\n" in terminal.type("when\r", "going> ")
+    terminal.type("when none\r", "going> ")
+    shown = terminal.type("run 20\r", "going> ")
+    assert "ran 20 limit\n" in shown and "condition" not in shown, shown
+    left(terminal)
+
+
 def what_goes_farther_back_is_told():
     terminal = begun()
     for line in ("put 0000 u 0000", "go 0000", "run 5000", "break 0001"):
@@ -398,5 +418,5 @@ def files_that_are_replaced():
     left(terminal)
 
 
-CHECKS = [what_is_pasted_is_text, a_subroutine_is_finished, a_stop_is_told, a_run_ends_where_a_condition_is_met, what_was_gone_back_over_is_gone_forward_to, why_nothing_is_done, what_goes_farther_back_is_told, what_is_gone_back_to_beyond_the_kept_steps, own_lines_are_refused_by_their_forms, words_that_are_displayed_and_changed, short_names, a_source_that_is_edited,
+CHECKS = [what_is_pasted_is_text, a_subroutine_is_finished, a_stop_is_told, a_run_ends_where_a_condition_is_met, what_was_gone_back_over_is_gone_forward_to, why_nothing_is_done, each_run_waits_for_a_condition, what_goes_farther_back_is_told, what_is_gone_back_to_beyond_the_kept_steps, own_lines_are_refused_by_their_forms, words_that_are_displayed_and_changed, short_names, a_source_that_is_edited,
           a_source_that_is_edited_by_lines, what_is_completed_besides, files_that_are_replaced]
