@@ -203,6 +203,8 @@ def each_run_waits_for_a_condition():
     assert "each run ends where this is met: count = 3\n" in terminal.type("when count = 3\r", "going> ")
     assert "ran 11 limit\n        the condition is met\n" in terminal.type("run 20\r", "going> ")
     assert "each run ends where this is met: 100000 times loop\n" in terminal.type("when 100000 times loop\r", "going> ")
+    shown = terminal.type("break loop 5\r", "going> ")
+    assert "        a breakpoint has no count: with when 5 times loop each run ends at the last of these times\n" in shown, shown
     assert "ran 399997 limit\n        the condition is met\n" in terminal.type("c\r", "going> ")
     assert "each run ends where this is met: 100000 times loop\n" in terminal.type("when\r", "going> ")
     terminal.type("when none\r", "going> ")
