@@ -1200,6 +1200,8 @@ async function endlessPrint(browser) {
         "(() => { const { Blob } = globalThis; globalThis.Blob = function (parts, options) { globalThis.linked = parts[0]; return new Blob(parts, options); }; })()"
     );
     await press(browser, "#notice button:nth-of-type(2)");
+    // the keeper has it a moment later
+    await browser.waitFor("document.querySelector('#notice').textContent.includes('Back to it')");
     assert.deepEqual(
         [await textOf(browser, "#notice"), await textOf(browser, ".paper"), (await panelOf(browser)).clock],
         ["The laboratory before this one can still be saved: Save laboratory.txt Back to it", "", "0"]

@@ -220,6 +220,7 @@ async function forcedColours(browser, address) {
     );
     // what is left free at the end of a list, so that no row is cut, has the colour of the ground
     const free = [];
+    await browser.press("#tab-memory-program");
     for (const size of [[1366, 768], [1440, 900], [1280, 720]]) {
         await browser.size(...size);
         await laidOut(browser);
