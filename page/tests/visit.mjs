@@ -1384,6 +1384,8 @@ async function byKeys(browser) {
     }
     const [one, two] = clocks;
     assert.notEqual(one, two);
+    await browser.value("document.querySelector('#tab-memory-program').focus()");
+    await browser.strike("Enter");
     await browser.value("document.querySelector(`tr[data-address='0000'] button`).focus()");
     await browser.strike("Enter");
     await browser.waitFor(
