@@ -306,7 +306,8 @@ export class Front {
         if (command === "to" && operands.length > 0) return () => this.#goTo(line);
         if (command === "back") return () => this.#back(line, operands);
         if (form === "why 1") return () => this.#why(line, operands[0]);
-        if (form === "break 2" && isNumber(operands[1])) return () => this.#breakCounted(line, operands);
+        // a breakpoint has no count, but a condition has
+        if (form === "break 2" && isNumber(operands[1])) return () => this.#waitFor(`${operands[1]} times ${operands[0]}`);
         if (["help 0", "help 1"].includes(form)) return () => this.#help(line, operands[0]);
         if (form === "go 1") return () => this.#go(line);
         if (form === "press 1") return () => this.#press(line);
@@ -769,12 +770,6 @@ export class Front {
     }
 
     // ---- the condition that each run waits for
-
-    /** A breakpoint has no count: its line is refused, and what counts is said. */
-    async #breakCounted(line, [address, times]) {
-        await this.#answer(line);
-        this.#note(`${INDENT}a breakpoint has no count: with when ${times} times ${address} each run ends at the last of these times`);
-    }
 
     /** A line that runs, with the condition that each run waits for; any other as it is. */
     #waiting(line) {
