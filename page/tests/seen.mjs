@@ -127,7 +127,9 @@ export const unseen = (browser, selectors) => browser.value(`(async () => {
         const top = document.elementFromPoint((box.left + box.right) / 2, (box.top + box.bottom) / 2);
         // what is taken in hand to turn the drum lies upon it, and is not seen
         const isUpon = top?.matches(".turner") === true && top.parentElement.contains(it);
-        return box.height > 0 && frames.every((frame) => within(box, frame)) && (it.contains(top) || top?.contains(it) || isUpon);
+        // between two letters of a drawing WebKit hits what lies below them
+        const isBelow = it.matches("text") && top?.parentElement === it.parentElement && (top.compareDocumentPosition(it) & Node.DOCUMENT_POSITION_FOLLOWING) > 0;
+        return box.height > 0 && frames.every((frame) => within(box, frame)) && (it.contains(top) || top?.contains(it) || isUpon || isBelow);
     };
     return ${JSON.stringify(selectors)}.flatMap((selector) => { const all = [...document.querySelectorAll(selector)]; return all.length > 0 && all.every(isSeen) ? [] : [selector]; });
 })()`);
