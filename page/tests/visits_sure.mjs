@@ -200,7 +200,8 @@ async function oneStopEach(browser, address) {
         );
         const rows = await browser.value(`[...document.querySelectorAll('${list} button')].map((it) => it.textContent)`);
         assert.ok(rows.length >= 3, list);
-        assert.equal((await stops()).length, 1, list);
+        // a list that was not seen is made one stop in the next picture
+        await browser.waitFor(`[...document.querySelectorAll('${list} button')].filter((it) => it.tabIndex === 0).length === 1`);
         await browser.value(`document.querySelector("${list} button[tabindex='0']").focus()`);
         for (const [key, wanted] of [
             ["Home", rows[0]], ["ArrowUp", rows[0]], ["ArrowDown", rows[1]], ["End", rows.at(-1)], ["ArrowUp", rows.at(-2)],
