@@ -59,7 +59,7 @@ export class ActionHistory {
      */
     marks = [];
 
-    /** How many orders lie behind. */
+    /** How many orders were performed up to here. */
     get behind() {
         return sum(this.#done);
     }
@@ -80,7 +80,7 @@ export class ActionHistory {
         return this.#undone.flatMap(({ line, lines, orders }) => lines ?? [line ?? `orders ${orders}`]);
     }
 
-    /** The monitor's number of the order at a place among those behind; null where none is. */
+    /** The monitor's number of the order at a place up to here; null where none is. */
     numberAt(place) {
         let before = 0;
         for (const { orders, first, past = 0 } of [...this.#done, ...this.#undone]) {
@@ -90,7 +90,7 @@ export class ActionHistory {
         return null;
     }
 
-    /** The runs of orders behind: the place of each, its number, and how many orders it has. */
+    /** The runs of orders up to here: the place of each, its number, and how many orders it has. */
     get runs() {
         let place = 0;
         return this.#done.filter(({ orders }) => orders > 0).map(({ orders, first, past = 0 }) => {

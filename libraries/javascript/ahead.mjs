@@ -6,7 +6,7 @@ const BACK = ["back", "last", "to"];
 
 export const goesBack = (command) => BACK.includes(command);
 
-/** Where a line has gone: so many orders back, or to the order of a number; null where it has gone nowhere. */
+/** Where a line has gone: a number of orders back, or to the order of a number; null where it has gone nowhere. */
 function goneBy(command, operands, reply) {
     if (isRefusal(reply)) return null;
     if (command === "to") return { order: orderOf(reply) };
@@ -17,7 +17,7 @@ export class Ahead {
     /** The transcript of the session that was left, and the one at the place that was gone to; null where nothing was gone back over. */
     #left = null;
     #here = null;
-    /** The place: so many orders back, or the number of an order. One that was gone to in both ways has neither. */
+    /** The place: a number of orders back, or the number of an order. One that was gone to in both ways has neither. */
     #place = null;
 
     /** A line has been answered before which the transcript was another. */
@@ -42,7 +42,7 @@ export class Ahead {
         return orders !== null && this.#place === null ? "back and to were both used: forward alone goes to where the session was" : null;
     }
 
-    /** The lines of the session that was left, and one after them that goes back to so many orders from here; null where all are meant. */
+    /** The lines of the session that was left, and one that goes back to a number of orders from here; null where all are meant. */
     way(orders) {
         const { back = 0, order = 0 } = this.#place ?? {};
         const isByNumber = this.#place?.order !== undefined;

@@ -613,7 +613,7 @@ export class Front {
         else if (origin !== null) await this.#leaveBy("back", [origin.back], () => this.#comeTo(origin.number));
     }
 
-    /** The reply to going so many orders back; null where Ctrl-C has stopped it, or there are fewer, which is said. */
+    /** The reply to going a number of orders back; null where Ctrl-C has stopped it, or there are fewer, which is said. */
     async #comeFar(orders) {
         const way = await this.#found(() => this.#earlier.way());
         const order = way?.numberBack(orders) ?? null;

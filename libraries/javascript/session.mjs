@@ -64,7 +64,7 @@ function checked(module) {
     return module;
 }
 
-/** An instance of the module, its memory laid out for a text of so many bytes and a region. */
+/** An instance of the module, its memory laid out for a text of a given size and a region. */
 class Instance {
     #exports;
     #room;
@@ -127,7 +127,7 @@ class Instance {
         return new Uint8Array(this.#exports.memory.buffer, this.room, this.told[1]).slice();
     }
 
-    /** Makes a room of so many bytes. */
+    /** Makes a room of a number of bytes. */
     #grow(room) {
         this.#reach(this.room + room);
         this.#room = room;

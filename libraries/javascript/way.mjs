@@ -133,7 +133,7 @@ export class Way {
         return this.#performed;
     }
 
-    /** The number of the order that is so many orders back from the end; null where there are fewer. */
+    /** The number of the order that is this many orders back from the end; null where there are fewer. */
     numberBack(orders) {
         let left = orders;
         for (const deed of this.#deeds.slice().reverse()) {

@@ -42,7 +42,7 @@ class Known {
         }
     }
 
-    /** The number of the order that is so many orders back. */
+    /** The number of the order that is this many orders back. */
     numberBack(orders) {
         let at = this.#way;
         for (let left = orders; left > 1; left -= 1) at = at.before;
